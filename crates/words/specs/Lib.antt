@@ -1,0 +1,4 @@
+pub mod Kinds
+pub mod Shown
+pub mod Records
+pub mod Seen
