@@ -1,0 +1,4 @@
+pub mod Walking
+pub mod Passing
+mod Keeps
+mod Going

@@ -1,0 +1,117 @@
+// What a plan says, and what follows from it.
+ghost use mathlib.Core.Path.{_≡_};
+ghost use Prim.Native.Nat.{_^_, _≤_, _<_};
+ghost use Rattle.std.specs.shelf.Lists.{sumBy};
+ghost use lib.ListN.{length};
+ghost use Rattle.plan.specs.Plans.{cycles, exec-length, transfer-length, bytes-for, need, if-task, if-channel};
+ghost use Rattle.plan.specs.Views.{view};
+use crate::model::Channel;
+use crate::model::Plan;
+use crate::model::Task;
+
+impl Plan {
+    pub fn cores(&self) -> u32
+        ensures { λ r. ⌜ r ≡ view (now (self .entry)) .cores ⌝ }
+    {
+        self.cores
+    }
+
+    pub fn slot_time(&self) -> u32
+        ensures { λ r. ⌜ r ≡ view (now (self .entry)) .slot-time ⌝ }
+    {
+        self.slot_time
+    }
+
+    pub fn slot_load(&self) -> u32
+        ensures { λ r. ⌜ r ≡ view (now (self .entry)) .slot-load ⌝ }
+    {
+        self.slot_load
+    }
+
+    pub fn scratchpad(&self) -> u32
+        ensures { λ r. ⌜ r ≡ view (now (self .entry)) .scratchpad ⌝ }
+    {
+        self.scratchpad
+    }
+
+    // The sizes of the regions, alike on every core.
+    pub fn regions(&self) -> &[u32]
+        ensures { λ r. ⌜ now r ≡ view (now (self .entry)) .regions ⌝ }
+    {
+        self.regions.as_slice()
+    }
+
+    pub fn tasks(&self) -> &[Task]
+        ensures { λ r. ⌜ now r ≡ view (now (self .entry)) .tasks ⌝ }
+    {
+        self.tasks.as_slice()
+    }
+
+    pub fn channels(&self) -> &[Channel]
+        ensures { λ r. ⌜ now r ≡ view (now (self .entry)) .channels ⌝ }
+    {
+        self.channels.as_slice()
+    }
+}
+
+impl Plan {
+    // The cycles that these bytes take on the bus: divided by the slot load, rounded up, times the slot time.
+    pub fn cycles(&self, bytes: u32) -> u64
+        ensures { λ r. ⌜ r ≡ cycles (view (now (self .entry))) bytes ⌝ }
+    {
+        let load = self.slot_load as u64;
+        (bytes as u64 + (load - 1)) / load * self.slot_time as u64
+    }
+
+    // The length of a task's exec, or none where the plan lacks the task.
+    pub fn exec_length(&self, task: usize) -> Option<u32>
+        ensures { λ r. ⌜ r ≡ if-task (view (now (self .entry))) task (exec-length (view (now (self .entry))) task) ⌝ }
+    {
+        match self.tasks.get(task) {
+            Some(found) => Some(found.limit),
+            None => None,
+        }
+    }
+
+    // The length of a channel's write and of its read, or none where the plan lacks the channel.
+    pub fn transfer_length(&self, channel: usize) -> Option<u64>
+        ensures { λ r. ⌜ r ≡ if-channel (view (now (self .entry))) channel (transfer-length (view (now (self .entry))) channel) ⌝ }
+    {
+        match self.channels.get(channel) {
+            Some(found) => Some(self.cycles(found.bytes)),
+            None => None,
+        }
+    }
+
+    // What a task needs of its region: its local bytes and those of all its channels, in and out.
+    // None where the plan lacks the task.
+    pub fn need(&self, task: usize) -> Option<u64>
+        ensures { λ r. ⌜ r ≡ if-task (view (now (self .entry))) task (need (view (now (self .entry))) task) ⌝ }
+    {
+        match self.tasks.get(task) {
+            Some(found) => Some(found.local as u64 + bytes_for(task, self.channels.as_slice())),
+            None => None,
+        }
+    }
+}
+
+// The bytes of all channels of a task.
+fn bytes_for(task: usize, channels: &[Channel]) -> u64
+    requires { ⌜ length (now channels) ≤ 256 ⌝ }
+    ensures value { λ r. ⌜ r ≡ sumBy (bytes-for task) (now (channels .entry)) ⌝ }
+    ensures bound { λ r. ⌜ r < 2 ^ 40 ⌝ }
+{
+    let mut total = 0;
+    for channel in channels {
+        total += share(task, channel);
+    }
+    total
+}
+
+// What one channel puts into a task's region.
+fn share(task: usize, channel: &Channel) -> u64
+    ensures value { λ r. ⌜ r ≡ bytes-for task (now (channel .entry)) ⌝ }
+    ensures bound { λ r. ⌜ r < 2 ^ 32 ⌝ }
+{
+    if channel.from == task || channel.to == task { channel.bytes as u64 } else { 0 }
+}
