@@ -77,7 +77,7 @@ pub going-cut : (ws rest : List ℕ) (g : Gathered) (kinds : List Kind) (place :
 going-cut ws rest g kinds place f i a =
     i .goes-on
     ∙ walk-fault plan-rules kinds (gathered g) place rest (shown f)
-      (ap (λ y. and-then (told y) (λ z. and-then (closing place (length rest) (z .0) also plan-rules .why (gathered g) place (z .0)) (λ _. Ok z))) a)
+    (ap (λ y. and-then (told y) (λ z. and-then (closing place (length rest) (z .0) also plan-rules .why (gathered g) place (z .0)) (λ _. Ok z))) a)
 
 -- the record has a fault
 pub going-fault : (ws rest after : List ℕ) (g : Gathered) (kinds : List Kind) (place : ℕ) (x : Said) (f : Refusal) → Going ws g kinds place rest → record-at kinds place rest ≡ Ok (x, after) → Stands g place rest x ≡ Err f → read-plan ws ≡ Err f
@@ -85,8 +85,8 @@ going-fault ws rest after g kinds place x f i a b =
     let w = sym (same-stands g place rest x (i .counted)) ∙ b in
     i .goes-on
     ∙ walk-fault plan-rules kinds (gathered g) place rest f
-      (ap (λ y. and-then (told y) (λ z. and-then (closing place (length rest) (z .0) also plan-rules .why (gathered g) place (z .0)) (λ _. Ok z))) a
-      ∙ ap (λ y. and-then y (λ _. Ok (x, after))) w)
+    (ap (λ y. and-then (told y) (λ z. and-then (closing place (length rest) (z .0) also plan-rules .why (gathered g) place (z .0)) (λ _. Ok z))) a
+    ∙ ap (λ y. and-then y (λ _. Ok (x, after))) w)
 
 -- there is a place for a record that stands
 pub going-roomy : (g : Gathered) (place : ℕ) (rest : List ℕ) (x : Said) → Counted g → Stands g place rest x ≡ Ok tt → Roomy g x

@@ -2,3 +2,4 @@ pub mod Walking
 pub mod Passing
 mod Keeps
 mod Going
+mod Law

@@ -58,8 +58,8 @@ unless-end r s place ws x false = walk r (length (fields-of x)) (follows x) (r .
 abbrev stepped : {S : Type 0} → Rules S → S → ℕ → List ℕ → Result (Said × List ℕ) Refusal → Result S Refusal
 stepped r s place ws y =
     and-then y (λ x. elim (is-end (x .0)) [
-      true ↦ Ok s
-    | false ↦ walk r (length (fields-of (x .0))) (follows (x .0)) (r .then s (x .0)) (place + 1) ws
+      | true ↦ Ok s
+      | false ↦ walk r (length (fields-of (x .0))) (follows (x .0)) (r .then s (x .0)) (place + 1) ws
     ])
 
 -- one record more

@@ -89,8 +89,8 @@ walk r (suc over) kinds s place (w ∷ ws) = walk r over kinds s (place + 1) ws
 walk r zero kinds s place (w ∷ ws) =
     and-then (next r kinds s place (w ∷ ws)) (λ x.
     elim (is-end (x .0)) [
-      true ↦ Ok s
-    | false ↦ walk r (length (fields-of (x .0))) (follows (x .0)) (r .then s (x .0)) (place + 1) ws
+      | true ↦ Ok s
+      | false ↦ walk r (length (fields-of (x .0))) (follows (x .0)) (r .then s (x .0)) (place + 1) ws
     ])
 
 -- the whole file

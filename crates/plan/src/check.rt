@@ -14,7 +14,11 @@ use words::Record;
 fn within(place: usize, n: usize, low: usize, high: usize) -> Result<(), Fault>
     ensures { λ r. ⌜ reported r ≡ within place n low high ⌝ }
 {
-    if low <= n && n <= high { Ok(()) } else { Err(Fault::Range { place }) }
+    if low <= n && n <= high {
+        Ok(())
+    } else {
+        Err(Fault::Range { place })
+    }
 }
 
 fn sizes_within(place: usize, sizes: &[u32]) -> Result<(), Fault>
@@ -39,7 +43,13 @@ fn total(sizes: &[u32]) -> u64
     total
 }
 
-fn machine(place: usize, cores: u32, slot_time: u32, slot_load: u32, scratchpad: u32) -> Result<(), Fault>
+fn machine(
+    place: usize,
+    cores: u32,
+    slot_time: u32,
+    slot_load: u32,
+    scratchpad: u32,
+) -> Result<(), Fault>
     requires { ⌜ place + 4 < 2 ^ 64 ⌝ }
     ensures { λ r. ⌜ reported r ≡ why 0 0 0 place (machine cores «slot_time» «slot_load» scratchpad) ⌝ }
 {
@@ -55,7 +65,11 @@ fn regions(place: usize, at: usize, sizes: &[u32], scratchpad: u32) -> Result<()
 {
     within(place, sizes.len(), 1, 8)?;
     sizes_within(at, sizes)?;
-    if total(sizes) <= scratchpad as u64 { Ok(()) } else { Err(Fault::Overfull { place }) }
+    if total(sizes) <= scratchpad as u64 {
+        Ok(())
+    } else {
+        Err(Fault::Overfull { place })
+    }
 }
 
 fn task(place: usize, limit: u32, local: u32, tasks: usize) -> Result<(), Fault>
@@ -64,7 +78,11 @@ fn task(place: usize, limit: u32, local: u32, tasks: usize) -> Result<(), Fault>
 {
     within(place, limit as usize, 1, 1_000_000)?;
     within(place + 1, local as usize, 0, 65_535)?;
-    if tasks < 64 { Ok(()) } else { Err(Fault::TooMany { place }) }
+    if tasks < 64 {
+        Ok(())
+    } else {
+        Err(Fault::TooMany { place })
+    }
 }
 
 fn channel(place: usize, bytes: u32, pair: u32, tasks: usize, channels: usize) -> Result<(), Fault>
@@ -77,27 +95,45 @@ fn channel(place: usize, bytes: u32, pair: u32, tasks: usize, channels: usize) -
         return Err(Fault::TooMany { place });
     }
     let (from, to) = (pair / 64, pair % 64);
-    if from < to && (to as usize) < tasks { Ok(()) } else { Err(Fault::Pair { place: place + 1 }) }
+    if from < to && (to as usize) < tasks {
+        Ok(())
+    } else {
+        Err(Fault::Pair { place: place + 1 })
+    }
 }
 
 fn end(place: usize, count: u32, left: usize) -> Result<(), Fault>
     ensures { λ r. ⌜ reported r ≡ closing place left (end count) ⌝ }
 {
-    if count as usize == place && left == 1 { Ok(()) } else { Err(Fault::End { place }) }
+    if count as usize == place && left == 1 {
+        Ok(())
+    } else {
+        Err(Fault::End { place })
+    }
 }
 
 // Whether the record may stand at this place, behind a machine with this scratchpad and so many tasks and channels.
 // `left` counts the words from its first on.
-pub(crate) fn check(found: Record<'_>, scratchpad: u32, tasks: usize, channels: usize, place: usize, left: usize) -> Result<(), Fault>
+pub(crate) fn check(
+    found: Record<'_>,
+    scratchpad: u32,
+    tasks: usize,
+    channels: usize,
+    place: usize,
+    left: usize,
+) -> Result<(), Fault>
     requires { ⌜ place + left < 2 ^ 64 ⌝ }
     requires { ⌜ length (words-of (said found)) ≤ left ⌝ }
     requires { ⌜ Placed place (said found) ⌝ }
     ensures { λ r. ⌜ reported r ≡ stands scratchpad tasks channels place left (said (found .entry)) ⌝ }
 {
     match found {
-        Record::Machine { cores, slot_time, slot_load, scratchpad } => {
-            machine(place, cores, slot_time, slot_load, scratchpad)
-        }
+        Record::Machine {
+            cores,
+            slot_time,
+            slot_load,
+            scratchpad,
+        } => { machine(place, cores, slot_time, slot_load, scratchpad) }
         Record::Regions { place: at, sizes } => regions(place, at, sizes, scratchpad),
         Record::Task { limit, local } => task(place, limit, local, tasks),
         Record::Channel { bytes, pair } => channel(place, bytes, pair, tasks, channels),

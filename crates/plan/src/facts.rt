@@ -113,5 +113,9 @@ fn share(task: usize, channel: &Channel) -> u64
     ensures value { λ r. ⌜ r ≡ bytes-for task (now (channel .entry)) ⌝ }
     ensures bound { λ r. ⌜ r < 2 ^ 32 ⌝ }
 {
-    if channel.from == task || channel.to == task { channel.bytes as u64 } else { 0 }
+    if channel.from == task || channel.to == task {
+        channel.bytes as u64
+    } else {
+        0
+    }
 }

@@ -39,7 +39,11 @@ impl Fault {
             Fault::Overfull { place } => (6, place),
             Fault::End { place } => (7, place),
         };
-        Refusal { number, layer: Layer::Records, place }
+        Refusal {
+            number,
+            layer: Layer::Records,
+            place,
+        }
     }
 }
 

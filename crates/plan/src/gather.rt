@@ -49,7 +49,11 @@ fn nothing<'a>() -> Gathered<'a>
         sizes: &[],
         tasks: [Task { limit: 0, local: 0 }; 64],
         task_count: 0,
-        channels: [Channel { from: 0, to: 0, bytes: 0 }; 256],
+        channels: [Channel {
+            from: 0,
+            to: 0,
+            bytes: 0,
+        }; 256],
         channel_count: 0,
     }
 }
@@ -61,7 +65,12 @@ fn note<'a>(so_far: &mut Gathered<'a>, found: Record<'a>)
     ensures counted { λ _. ⌜ Counted (now («so_far» .exit)) ⌝ }
 {
     match found {
-        Record::Machine { cores, slot_time, slot_load, scratchpad } => {
+        Record::Machine {
+            cores,
+            slot_time,
+            slot_load,
+            scratchpad,
+        } => {
             so_far.cores = cores;
             so_far.slot_time = slot_time;
             so_far.slot_load = slot_load;
@@ -91,7 +100,14 @@ pub(crate) fn gather(words: &[u32]) -> Result<Gathered<'_>, Fault>
     'records: loop {
         let (place, left) = (reader.place(), reader.left());
         let found = reader.record(kinds)?;
-        check(found, so_far.scratchpad, so_far.task_count, so_far.channel_count, place, left)?;
+        check(
+            found,
+            so_far.scratchpad,
+            so_far.task_count,
+            so_far.channel_count,
+            place,
+            left,
+        )?;
         if let Record::End { .. } = found {
             return Ok(so_far);
         }

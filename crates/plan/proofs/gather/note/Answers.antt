@@ -18,8 +18,8 @@ returns-in-Task c =
     let e = take-more-set (g .tasks) (g .«task_count») (record { limit = c .in-Task .limit; local = c .in-Task .local }) lt in
     record {
       view =
-        ap (λ ts. plan-of (g .cores) (g .«slot_time») (g .«slot_load») (g .scratchpad) (now (g .sizes)) ts (take (g .«channel_count») (g .channels))) e
-        ∙ ap (λ x. then (gathered g) (said x)) (sym (c .in-Task .is));
+          ap (λ ts. plan-of (g .cores) (g .«slot_time») (g .«slot_load») (g .scratchpad) (now (g .sizes)) ts (take (g .«channel_count») (g .channels))) e
+          ∙ ap (λ x. then (gathered g) (said x)) (sym (c .in-Task .is));
       counted = search needs;
     }
 
@@ -30,7 +30,7 @@ returns-in-Channel c =
     let e = take-more-set (g .channels) (g .«channel_count») (record { from = c .in-Channel .pair / 64; to = c .in-Channel .pair % 64; bytes = c .in-Channel .bytes }) lt in
     record {
       view =
-        ap (plan-of (g .cores) (g .«slot_time») (g .«slot_load») (g .scratchpad) (now (g .sizes)) (take (g .«task_count») (g .tasks))) e
-        ∙ ap (λ x. then (gathered g) (said x)) (sym (c .in-Channel .is));
+          ap (plan-of (g .cores) (g .«slot_time») (g .«slot_load») (g .scratchpad) (now (g .sizes)) (take (g .«task_count») (g .tasks))) e
+          ∙ ap (λ x. then (gathered g) (said x)) (sym (c .in-Channel .is));
       counted = search needs;
     }
