@@ -5,8 +5,18 @@ use Prim.Native.Nat.{ℕ, _≤_, _<_}
 use denote.Ref.{now}
 use lib.ListN.{length, take}
 use Rattle.words.specs.Records.{Said, machine, regions, task, channel, exec, transfer, end}
+use Rattle.std.specs.declared.result.Result.{Result}
+use Rattle.std.specs.declared.result.Result.the-variants.{Ok, Err}
+use Rattle.words.specs.declared.kind.Kind.{Kind}
+use Rattle.words.specs.declared.reader.Reader.{Reader}
+use Rattle.words.specs.declared.record.Record.{Record}
+use Rattle.words.specs.Seen.{said, counted}
+use Rattle.plan.specs.declared.fault.Fault.{Fault}
 use Rattle.plan.specs.declared.gathered.Gathered.{Gathered}
+use Rattle.plan.specs.Files.{next}
 use Rattle.plan.specs.Plans.{PlanView, plan-of}
+use Rattle.plan.specs.Reading.{plan-rules}
+use Rattle.plan.specs.Shown.{shown}
 
 abbrev pub gathered : Gathered → PlanView
 gathered g =
@@ -28,3 +38,9 @@ Roomy g (channel bytes pair) = (g .«task_count» ≤ 64) × (g .«channel_count
 Roomy g (exec start seat) = Counted g
 Roomy g (transfer start side) = Counted g
 Roomy g (end count) = Counted g
+
+-- the next record is taken and checked, and the reader then stands behind it in the same file
+abbrev pub Goes : List Kind → PlanView → Reader → Result Record Fault → Reader → Type 0
+Goes kinds p old (Ok x) new =
+    (next plan-rules kinds p (old .place) (now (old .rest)) ≡ Ok (said x, now (new .rest))) × (counted new ≡ counted old)
+Goes kinds p old (Err f) new = next plan-rules kinds p (old .place) (now (old .rest)) ≡ Err (shown f)

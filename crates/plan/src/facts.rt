@@ -1,9 +1,10 @@
 // What a plan says, and what follows from it.
 ghost use mathlib.Core.Path.{_≡_};
-ghost use Prim.Native.Nat.{_^_, _≤_, _<_};
+ghost use Prim.Native.Nat.{_≤_};
 ghost use Rattle.std.specs.shelf.Lists.{sumBy};
 ghost use lib.ListN.{length};
 ghost use Rattle.plan.specs.Plans.{cycles, exec-length, transfer-length, bytes-for, need, if-task, if-channel};
+ghost use Rattle.plan.specs.Ranges.{Throughout};
 ghost use Rattle.plan.specs.Views.{view};
 use crate::model::Channel;
 use crate::model::Plan;
@@ -74,32 +75,33 @@ impl Plan {
     }
 
     // The length of a channel's write and of its read, or none where the plan lacks the channel.
-    pub fn transfer_length(&self, channel: usize) -> Option<u64>
+    pub fn transfer_length(&self, channel: usize) -> Option<u32>
         ensures { λ r. ⌜ r ≡ if-channel (view (now (self .entry))) channel (transfer-length (view (now (self .entry))) channel) ⌝ }
     {
         match self.channels.get(channel) {
-            Some(found) => Some(self.cycles(found.bytes)),
+            Some(found) => Some(self.cycles(found.bytes) as u32),
             None => None,
         }
     }
 
     // What a task needs of its region: its local bytes and those of all its channels, in and out.
     // None where the plan lacks the task.
-    pub fn need(&self, task: usize) -> Option<u64>
+    pub fn need(&self, task: usize) -> Option<u32>
         ensures { λ r. ⌜ r ≡ if-task (view (now (self .entry))) task (need (view (now (self .entry))) task) ⌝ }
     {
         match self.tasks.get(task) {
-            Some(found) => Some(found.local as u64 + bytes_for(task, self.channels.as_slice())),
+            Some(found) => Some(found.local + bytes_for(task, self.channels.as_slice())),
             None => None,
         }
     }
 }
 
 // The bytes of all channels of a task.
-fn bytes_for(task: usize, channels: &[Channel]) -> u64
-    requires { ⌜ length (now channels) ≤ 256 ⌝ }
+fn bytes_for(task: usize, channels: &[Channel]) -> u32
+    requires few { ⌜ length (now channels) ≤ 256 ⌝ }
+    requires small { ⌜ Throughout (λ c. c .bytes ≤ 4096) (now channels) ⌝ }
     ensures value { λ r. ⌜ r ≡ sumBy (bytes-for task) (now (channels .entry)) ⌝ }
-    ensures bound { λ r. ⌜ r < 2 ^ 40 ⌝ }
+    ensures bound { λ r. ⌜ r ≤ 1048576 ⌝ }
 {
     let mut total = 0;
     for channel in channels {
@@ -109,12 +111,12 @@ fn bytes_for(task: usize, channels: &[Channel]) -> u64
 }
 
 // What one channel puts into a task's region.
-fn share(task: usize, channel: &Channel) -> u64
+fn share(task: usize, channel: &Channel) -> u32
     ensures value { λ r. ⌜ r ≡ bytes-for task (now (channel .entry)) ⌝ }
-    ensures bound { λ r. ⌜ r < 2 ^ 32 ⌝ }
+    ensures bound { λ r. ⌜ r ≤ now (channel .entry) .bytes ⌝ }
 {
     if channel.from == task || channel.to == task {
-        channel.bytes as u64
+        channel.bytes
     } else {
         0
     }

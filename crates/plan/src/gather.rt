@@ -7,7 +7,7 @@ ghost use Rattle.std.specs.Results.{Cases};
 ghost use Rattle.std.specs.declared.result.Result.the-variants.{Ok, Err};
 ghost use Rattle.words.specs.Seen.{said};
 ghost use Rattle.plan.specs.Files.{follows};
-ghost use Rattle.plan.specs.Gathering.{gathered, Counted, Roomy};
+ghost use Rattle.plan.specs.Gathering.{gathered, Counted, Goes, Roomy};
 ghost use Rattle.plan.specs.Plans.{plan-of};
 ghost use Rattle.plan.specs.Reading.{then, plan-rules, read-plan};
 ghost use Rattle.plan.specs.Shown.{shown};
@@ -90,6 +90,28 @@ fn note<'a>(so_far: &mut Gathered<'a>, found: Record<'a>)
     }
 }
 
+// The next record, taken and checked.
+fn next<'a>(
+    reader: &mut Reader<'a>,
+    kinds: &[Kind],
+    so_far: &Gathered<'_>,
+) -> Result<Record<'a>, Fault>
+    requires { ⌜ Counted (now «so_far») ⌝ }
+    ensures { λ r. ⌜ Goes (now (kinds .entry)) (gathered (now («so_far» .entry))) (now (reader .entry)) r (now (reader .exit)) ⌝ }
+{
+    let (place, left) = (reader.place(), reader.left());
+    let found = reader.record(kinds)?;
+    check(
+        found,
+        so_far.scratchpad,
+        so_far.task_count,
+        so_far.channel_count,
+        place,
+        left,
+    )?;
+    Ok(found)
+}
+
 // The numbers of the plan that the words say, or the first refusal.
 pub(crate) fn gather(words: &[u32]) -> Result<Gathered<'_>, Fault>
     ensures { λ r. ⌜ Cases r (λ g. (read-plan (now (words .entry)) ≡ Ok (gathered g)) × Counted g) (λ e. read-plan (now (words .entry)) ≡ Err (shown e)) ⌝ }
@@ -98,16 +120,7 @@ pub(crate) fn gather(words: &[u32]) -> Result<Gathered<'_>, Fault>
     let mut kinds: &[Kind] = &[Kind::Machine];
     let mut so_far = nothing();
     'records: loop {
-        let (place, left) = (reader.place(), reader.left());
-        let found = reader.record(kinds)?;
-        check(
-            found,
-            so_far.scratchpad,
-            so_far.task_count,
-            so_far.channel_count,
-            place,
-            left,
-        )?;
+        let found = next(&mut reader, kinds, &so_far)?;
         if let Record::End { .. } = found {
             return Ok(so_far);
         }

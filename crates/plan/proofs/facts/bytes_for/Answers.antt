@@ -9,7 +9,7 @@ use Rattle.plan.proofs.facts.bytes_for.Needs as need
 pub loop-channel-again : need.loop-channel-again
 loop-channel-again c =
     let e = sumBy-more (bytes-for (c .args .task)) (c .args .channels .now) (c .loop-channel .channel-index) no-channel (c .loop-channel-test .taken) in
-    (omega (arith, e, c .loop-channel .inv .0, c .share-total .ensures .value), omega (arith, c .loop-channel .inv .1, c .share-total .ensures .bound))
+    (omega (arith, e, c .loop-channel .inv .0, c .share-total .ensures .value), omega (arith, c .loop-channel .inv .1, c .share-total .ensures .bound, c .pre .small (c .loop-channel .channel-index) no-channel (c .loop-channel-test .taken)))
 
 pub returns : need.returns
 returns c = record {

@@ -7,4 +7,4 @@ use Rattle.plan.proofs.facts.bytes_for.Given as given
 
 abbrev pub Inv-loop-channel : given.InvT-loop-channel
 Inv-loop-channel l =
-    (l .total ≡ sumBy (bytes-for (l .task)) (take (l .channel-index) (l .channels))) × (l .total ≤ 4294967295 * l .channel-index)
+    (l .total ≡ sumBy (bytes-for (l .task)) (take (l .channel-index) (l .channels))) × (l .total ≤ 4096 * l .channel-index)
