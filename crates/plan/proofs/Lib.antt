@@ -3,3 +3,4 @@ pub mod Passing
 mod Keeps
 mod Going
 mod Law
+mod Rounding

@@ -1,6 +1,7 @@
 -- A plan by its numbers, and what follows from them.
 use mathlib.Core.Bool.{Bool, cond, _||_}
-use mathlib.Core.List.{List, [], _∷_}
+use mathlib.Core.List.{List}
+use mathlib.Core.Logic.{_↔_}
 use Prim.Native.Nat.{ℕ, _+_, _-_, _*_, _/_, _≤_}
 use lib.Dec.{eqb, leb, ltb}
 use lib.ListN.{length, getD}
@@ -54,6 +55,10 @@ channel-at p c = getD (p .channels) c no-channel
 -- n divided by d, rounded up
 abbrev pub divided-up : ℕ → ℕ → ℕ
 divided-up n d = (n + (d - 1)) / d
+
+-- which is the least k such that k times d reaches n
+abbrev pub Rounds-up : Type 0
+Rounds-up = (n d k : ℕ) → 1 ≤ d → (divided-up n d ≤ k) ↔ (n ≤ k * d)
 
 -- the cycles that these bytes take on the bus
 abbrev pub cycles : PlanView → ℕ → ℕ

@@ -1,64 +1,19 @@
-// What a plan says, and what follows from it.
+// What follows from a plan's numbers: lengths and needs.
 ghost use mathlib.Core.Path.{_≡_};
 ghost use Prim.Native.Nat.{_≤_};
 ghost use Rattle.std.specs.shelf.Lists.{sumBy};
 ghost use lib.ListN.{length};
-ghost use Rattle.plan.specs.Plans.{cycles, exec-length, transfer-length, bytes-for, need, if-task, if-channel};
+ghost use Rattle.plan.specs.Plans.{cycles, Rounds-up, exec-length, transfer-length, bytes-for, need, if-task, if-channel};
 ghost use Rattle.plan.specs.Ranges.{Throughout};
 ghost use Rattle.plan.specs.Views.{view};
 use crate::model::Channel;
 use crate::model::Plan;
-use crate::model::Task;
-
-impl Plan {
-    pub fn cores(&self) -> u32
-        ensures { λ r. ⌜ r ≡ view (now (self .entry)) .cores ⌝ }
-    {
-        self.cores
-    }
-
-    pub fn slot_time(&self) -> u32
-        ensures { λ r. ⌜ r ≡ view (now (self .entry)) .slot-time ⌝ }
-    {
-        self.slot_time
-    }
-
-    pub fn slot_load(&self) -> u32
-        ensures { λ r. ⌜ r ≡ view (now (self .entry)) .slot-load ⌝ }
-    {
-        self.slot_load
-    }
-
-    pub fn scratchpad(&self) -> u32
-        ensures { λ r. ⌜ r ≡ view (now (self .entry)) .scratchpad ⌝ }
-    {
-        self.scratchpad
-    }
-
-    // The sizes of the regions, alike on every core.
-    pub fn regions(&self) -> &[u32]
-        ensures { λ r. ⌜ now r ≡ view (now (self .entry)) .regions ⌝ }
-    {
-        self.regions.as_slice()
-    }
-
-    pub fn tasks(&self) -> &[Task]
-        ensures { λ r. ⌜ now r ≡ view (now (self .entry)) .tasks ⌝ }
-    {
-        self.tasks.as_slice()
-    }
-
-    pub fn channels(&self) -> &[Channel]
-        ensures { λ r. ⌜ now r ≡ view (now (self .entry)) .channels ⌝ }
-    {
-        self.channels.as_slice()
-    }
-}
 
 impl Plan {
     // The cycles that these bytes take on the bus: divided by the slot load, rounded up, times the slot time.
     pub fn cycles(&self, bytes: u32) -> u64
-        ensures { λ r. ⌜ r ≡ cycles (view (now (self .entry))) bytes ⌝ }
+        ensures value { λ r. ⌜ r ≡ cycles (view (now (self .entry))) bytes ⌝ }
+        ensures law { λ _. ⌜ Rounds-up ⌝ }
     {
         let load = self.slot_load as u64;
         (bytes as u64 + (load - 1)) / load * self.slot_time as u64

@@ -2,7 +2,7 @@
 ghost use mathlib.Core.Path.{_≡_};
 ghost use Rattle.plan.specs.declared.fault.Fault.the-variants.{Words};
 ghost use Rattle.plan.specs.declared.fault.ReadError.the-variants.{NoMemory, Refused as RefusedBy};
-ghost use Rattle.plan.specs.Shown.{shown};
+ghost use Rattle.plan.specs.Shown.{shown, refusal-of};
 use std::alloc::AllocError;
 use words::FaultDebug as WordsFaultDebug;
 use words::FaultEq as WordsFaultEq;
@@ -60,6 +60,18 @@ pub impl From<words::Fault> for Fault as FaultFromWords {
 pub enum ReadError {
     NoMemory,
     Refused(Fault),
+}
+
+impl ReadError {
+    // The refusal, or none for want of memory, which has no number.
+    pub fn refusal(self) -> Option<Refusal>
+        ensures { λ r. ⌜ r ≡ refusal-of self ⌝ }
+    {
+        match self {
+            ReadError::Refused(fault) => Some(fault.refusal()),
+            ReadError::NoMemory => None,
+        }
+    }
 }
 
 pub impl From<Fault> for ReadError as ReadErrorFromFault {

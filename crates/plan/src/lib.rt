@@ -5,6 +5,7 @@ mod fault;
 mod gather;
 mod gathered;
 mod model;
+mod parts;
 mod reading;
 
 pub use fault::Fault;

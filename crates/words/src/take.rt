@@ -135,31 +135,6 @@ fn record_at<'a>(
 }
 
 impl<'a> Reader<'a> {
-    // At the first word of a file.
-    pub fn new(words: &'a [u32]) -> Reader<'a>
-        ensures place { λ r. ⌜ r .place ≡ 0 ⌝ }
-        ensures rest { λ r. ⌜ now (r .rest) ≡ now (words .entry) ⌝ }
-    {
-        Reader {
-            place: 0,
-            rest: words,
-        }
-    }
-
-    // The place of the next word.
-    pub fn place(&self) -> usize
-        ensures { λ r. ⌜ r ≡ now (self .entry) .place ⌝ }
-    {
-        self.place
-    }
-
-    // How many words are left.
-    pub fn left(&self) -> usize
-        ensures { λ r. ⌜ r ≡ length (now (now (self .entry) .rest)) ⌝ }
-    {
-        self.rest.len()
-    }
-
     // The next record, which one of these kinds must open. A refusal leaves the reader where it is.
     pub fn record(&mut self, kinds: &[Kind]) -> Result<Record<'a>, Fault>
         ensures { λ r. ⌜ Reads (now (kinds .entry)) (now (self .entry)) r (now (self .exit)) ⌝ }

@@ -1,0 +1,12 @@
+-- Division rounded up.
+use mathlib.Core.Path.{_≡_, ap, _∙_}
+use Prim.Native.Nat.{ℕ, _+_, _-_, _*_, _≤_, _<_}
+use native.Mathlib.Nat.{div-lt-iff-lt-mul, add-mul, one-mul}
+use native.Mathlib.Omega.{arith}
+use Rattle.plan.specs.Plans.{divided-up, Rounds-up}
+
+pub rounds-up : Rounds-up
+rounds-up n d k l =
+    let q = div-lt-iff-lt-mul {k = d} {x = n + (d - 1)} {y = k + 1} l in
+    let m : (k + 1) * d ≡ k * d + d = add-mul k 1 d ∙ ap (λ e. k * d + e) (one-mul d) in
+    (λ h. let z = q .0 (omega arith) in omega arith, λ h. let z = q .1 (omega arith) in omega arith)
