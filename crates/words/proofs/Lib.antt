@@ -1,1 +1,2 @@
+mod Inverses
 pub mod Taking

@@ -1,10 +1,17 @@
 // Files of 32-bit words: what a word says, how words make records, and how words are kept as bytes.
+mod bytes;
 mod fault;
 mod kind;
 mod reader;
 mod record;
 mod take;
 
+pub use bytes::BytesError;
+pub use bytes::BytesErrorDebug;
+pub use bytes::BytesErrorEq;
+pub use bytes::BytesErrorPartialEq;
+pub use bytes::from_bytes;
+pub use bytes::to_bytes;
 pub use fault::Fault;
 pub use fault::FaultDebug;
 pub use fault::FaultEq;
