@@ -3,7 +3,7 @@ use mathlib.Core.Path.{_≡_}
 use mathlib.Core.List.{List, [], _∷_}
 use Prim.Native.Nat.{ℕ}
 use Rattle.std.specs.declared.result.Result.the-variants.{Ok, Err}
-use Rattle.words.specs.declared.fault.Layer.the-variants.{Words, Records}
+use Rattle.words.specs.declared.fault.Layer.the-variants.{Words}
 use Rattle.words.specs.Shown.{refusal}
 use Rattle.plan.specs.Plans.{PlanView, plan-of, cycles, exec-length, transfer-length, need}
 use Rattle.plan.specs.Reading.{read-plan, written}

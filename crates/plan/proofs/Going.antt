@@ -1,10 +1,10 @@
 -- What stands before each record of a plan file.
-use mathlib.Core.Path.{_≡_, refl, sym, ap, _∙_, subst}
-use mathlib.Core.Bool.{Bool, true, false, cond}
-use mathlib.Core.List.{List, [], _∷_, _++_}
-use Prim.Native.Nat.{ℕ, _+_, _≤_, _<_}
+use mathlib.Core.Path.{_≡_, refl, sym, ap, _∙_}
+use mathlib.Core.Bool.{true, false}
+use mathlib.Core.List.{List}
+use Prim.Native.Nat.{ℕ, _+_, _<_}
 use native.Mathlib.Omega.{arith}
-use lib.ListN.{length, take}
+use lib.ListN.{length}
 use Rattle.std.proofs.shelf.Lists.{length-take-le}
 use Rattle.std.proofs.shelf.Ways.{tells}
 use Rattle.std.specs.declared.result.Result.{Result}
@@ -12,16 +12,15 @@ use Rattle.std.specs.declared.result.Result.the-variants.{Ok, Err}
 use Rattle.words.specs.declared.fault.Fault.{Fault}
 use Rattle.words.specs.declared.fault.Refusal.{Refusal}
 use Rattle.words.specs.declared.kind.Kind.{Kind}
-use Rattle.words.specs.Records.{Said, machine, regions, task, channel, exec, transfer, end, words-of, Placed, and-then, record-at}
+use Rattle.words.specs.Records.{Said, machine, regions, task, channel, exec, transfer, end, words-of, Placed, and-then, record-at, follows}
 use Rattle.words.specs.declared.record.Record.{Record}
 use Rattle.words.specs.declared.record.Record.the-variants as r
 use Rattle.words.specs.Seen.{said}
 use Rattle.words.specs.Shown.{shown}
 use Rattle.words.proofs.Taking.{taken-shorter, taken-less}
 use Rattle.plan.specs.declared.gathered.Gathered.{Gathered}
-use Rattle.plan.specs.Files.{Checked, _also_, is-end, closing, follows, told, walk, next}
+use Rattle.plan.specs.Files.{Checked, _also_, is-end, closing, told, walk, next}
 use Rattle.plan.specs.Gathering.{gathered, Counted, Roomy}
-use Rattle.plan.specs.Plans.{PlanView}
 use Rattle.plan.specs.Reading.{why, stands, then, plan-rules, read-plan}
 use Rattle.plan.proofs.Walking.{next-ok, walk-more, walk-end, walk-fault}
 

@@ -1,29 +1,28 @@
 -- The law of reading a plan.
-use mathlib.Core.Path.{_≡_, refl, sym, ap, _∙_, subst}
-use mathlib.Core.Bool.{Bool, true, false, cond}
+use mathlib.Core.Path.{_≡_, refl, sym, ap, _∙_}
+use mathlib.Core.Bool.{Bool, true, false}
 use mathlib.Core.List.{List, [], _∷_, _++_, map}
-use Prim.Native.Nat.{ℕ, zero, suc, _+_, _*_, _/_, _%_, _≤_, _<_}
+use Prim.Native.Nat.{ℕ, _+_, _*_, _/_, _%_, _≤_, _<_}
 use native.Mathlib.Omega.{arith}
-use lib.ListN.{length, getD}
+use lib.ListN.{length}
 use Rattle.std.specs.Joined.{joined}
 use Rattle.std.specs.shelf.Lists.{All, sum}
-use Rattle.std.proofs.shelf.Bits.{div-add-mod', div-mul-add, mod-mul-add, mod-below}
+use Rattle.std.proofs.shelf.Bits.{div-add-mod', div-mul-add, mod-mul-add}
 use Rattle.std.proofs.shelf.Elements.{all-getD, all-from-getD, all-push, all-weaker}
 use Rattle.std.proofs.shelf.Lists.{append-assoc, append-nil, length-append, length-push, map-append}
 use Rattle.std.proofs.shelf.Ways.{tells}
-use Rattle.std.specs.declared.result.Result.{Result}
-use Rattle.std.specs.declared.result.Result.the-variants.{Ok, Err}
+use Rattle.std.specs.declared.result.Result.the-variants.{Ok}
 use Rattle.words.specs.declared.kind.Kind.{Kind}
 use Rattle.words.specs.declared.kind.Kind.the-variants.{Machine, Regions, Task, Channel, Exec, Transfer, End}
 use Rattle.words.specs.Kinds.{one-of}
-use Rattle.words.specs.Records.{Said, machine, regions, task, channel, exec, transfer, end, words-of, Small}
+use Rattle.words.specs.Records.{Said, machine, regions, task, channel, exec, transfer, end, words-of, Small, follows}
 use Rattle.plan.specs.declared.model.Task.{Task as TaskT}
 use Rattle.plan.specs.declared.model.Channel.{Channel as ChannelT}
-use Rattle.plan.specs.Files.{Checked, _also_, within, follows, walk, file-of}
+use Rattle.plan.specs.Files.{file-of}
 use Rattle.plan.specs.Plans.{PlanView, plan-of, Valid, no-task, no-channel}
-use Rattle.plan.specs.Ranges.{Between, Throughout, Task-fits, Channel-fits}
+use Rattle.plan.specs.Ranges.{Between, Task-fits, Channel-fits}
 use Rattle.plan.specs.Reading.{sizes-within, why, then, plan-rules, read-plan, task-record, channel-record, records, written, Law-of-reading}
-use Rattle.plan.proofs.Passing.{Lets, Passes, Came, walk-came, passes-walk, closed-at}
+use Rattle.plan.proofs.Passing.{Passes, walk-came, passes-walk, closed-at}
 
 -- ---- the sizes
 sizes-ok : (place : ℕ) (ns : List ℕ) → sizes-within place ns ≡ Ok tt → All (Between 1 1048576) ns

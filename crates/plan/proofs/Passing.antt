@@ -1,8 +1,8 @@
 -- A file is read exactly when it is a list of records that the rules let through, closed by its end.
-use mathlib.Core.Path.{_≡_, refl, sym, ap, _∙_, subst}
-use mathlib.Core.Bool.{Bool, true, false, cond}
+use mathlib.Core.Path.{_≡_, refl, sym, ap, _∙_}
+use mathlib.Core.Bool.{Bool, true, false}
 use mathlib.Core.List.{List, [], _∷_, _++_}
-use Prim.Native.Nat.{ℕ, zero, suc, _+_, _≤_, _<_}
+use Prim.Native.Nat.{ℕ, zero, suc, _+_, _≤_}
 use native.Mathlib.Omega.{arith}
 use native.Mathlib.Nat.{add-zero}
 use lib.ListN.{length}
@@ -15,9 +15,9 @@ use Rattle.words.specs.declared.fault.Refusal.{Refusal}
 use Rattle.words.specs.declared.kind.Kind.{Kind}
 use Rattle.words.specs.declared.kind.Kind.the-variants.{End}
 use Rattle.words.specs.Kinds.{one-of}
-use Rattle.words.specs.Records.{Said, machine, regions, task, channel, exec, transfer, end, opener, fields-of, words-of, Small, Sayable}
+use Rattle.words.specs.Records.{Said, machine, regions, task, channel, exec, transfer, end, opener, words-of, Small, Sayable, follows}
 use Rattle.words.proofs.Taking.{taken-ok, taken-less, written-taken}
-use Rattle.plan.specs.Files.{follows, is-end, closing, Rules, next, walk}
+use Rattle.plan.specs.Files.{is-end, closing, Rules, next, walk}
 use Rattle.plan.proofs.Walking.{Passed, next-ok, next-passed, walk-more, walk-end, walk-fault}
 
 -- the rules let a record through at this place

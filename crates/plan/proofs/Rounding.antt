@@ -1,9 +1,9 @@
 -- Division rounded up.
 use mathlib.Core.Path.{_≡_, ap, _∙_}
-use Prim.Native.Nat.{ℕ, _+_, _-_, _*_, _≤_, _<_}
+use Prim.Native.Nat.{_+_, _-_, _*_}
 use native.Mathlib.Nat.{div-lt-iff-lt-mul, add-mul, one-mul}
 use native.Mathlib.Omega.{arith}
-use Rattle.plan.specs.Plans.{divided-up, Rounds-up}
+use Rattle.plan.specs.Plans.{Rounds-up}
 
 pub rounds-up : Rounds-up
 rounds-up n d k l =

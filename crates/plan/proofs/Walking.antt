@@ -1,19 +1,18 @@
 -- How reading goes on from record to record.
-use mathlib.Core.Path.{_≡_, refl, sym, ap, _∙_, subst}
-use mathlib.Core.Bool.{Bool, true, false, cond}
+use mathlib.Core.Path.{_≡_, refl, ap, _∙_}
+use mathlib.Core.Bool.{Bool, true, false}
 use mathlib.Core.List.{List, [], _∷_, _++_}
-use Prim.Native.Nat.{ℕ, zero, suc, _+_, _≤_, _<_}
+use Prim.Native.Nat.{ℕ, suc, _+_}
 use native.Mathlib.Omega.{arith}
-use lib.ListN.{length, take, drop}
-use Rattle.std.proofs.shelf.Lists.{drop-at, length-append}
+use lib.ListN.{length}
 use Rattle.std.specs.declared.result.Result.{Result}
 use Rattle.std.specs.declared.result.Result.the-variants.{Ok, Err}
 use Rattle.words.specs.declared.fault.Fault.{Fault}
 use Rattle.words.specs.declared.fault.Refusal.{Refusal}
 use Rattle.words.specs.declared.kind.Kind.{Kind}
-use Rattle.words.specs.Records.{Said, fields-of, words-of, and-then, record-at}
-use Rattle.words.proofs.Taking.{Taken, taken-ok}
-use Rattle.plan.specs.Files.{Checked, _also_, follows, is-end, closing, Rules, told, next, walk}
+use Rattle.words.specs.Records.{Said, fields-of, words-of, and-then, record-at, follows}
+use Rattle.words.proofs.Taking.{taken-ok}
+use Rattle.plan.specs.Files.{Checked, _also_, is-end, closing, Rules, told, next, walk}
 
 -- a record that is next was taken and checked
 pub record Passed {S : Type 0} (r : Rules S) (kinds : List Kind) (s : S) (place : ℕ) (ws : List ℕ) (x : Said) (rest : List ℕ) : Type 0 where

@@ -1,5 +1,4 @@
 -- How a file is read: record by record, each one taken and then checked. The first refusal stands.
-use mathlib.Core.Path.{_≡_}
 use mathlib.Core.Bool.{Bool, true, false, cond, _&&_}
 use mathlib.Core.List.{List, [], _∷_, _++_}
 use Prim.Native.Nat.{ℕ, zero, suc, _+_}
@@ -12,9 +11,7 @@ use Rattle.words.specs.declared.fault.Fault.{Fault}
 use Rattle.words.specs.declared.fault.Layer.the-variants.{Words, Records}
 use Rattle.words.specs.declared.fault.Refusal.{Refusal}
 use Rattle.words.specs.declared.kind.Kind.{Kind}
-use Rattle.words.specs.declared.kind.Kind.the-variants.{Machine, Regions, Task, Channel, Exec, Transfer, End}
-use Rattle.words.specs.Kinds.{one-of}
-use Rattle.words.specs.Records.{Said, machine, regions, task, channel, exec, transfer, end, opener, fields-of, words-of, Sayable, and-then, record-at}
+use Rattle.words.specs.Records.{Said, machine, regions, task, channel, exec, transfer, end, fields-of, words-of, follows, and-then, record-at}
 use Rattle.words.specs.Shown.{refusal, shown}
 
 -- ---- checks
@@ -35,16 +32,7 @@ holds b number place = cond b (Ok tt) (Err (refusal number Records place))
 abbrev pub within : ℕ → ℕ → ℕ → ℕ → Checked
 within place n low high = holds (leb low n && leb n high) 3 place
 
--- ---- what may come after a record
-abbrev pub follows : Said → List Kind
-follows (machine c t d s) = Regions ∷ []
-follows (regions place ns) = Task ∷ []
-follows (task limit local) = Task ∷ Channel ∷ End ∷ []
-follows (channel bytes pair) = Channel ∷ End ∷ []
-follows (exec start seat) = Exec ∷ Transfer ∷ End ∷ []
-follows (transfer start side) = Transfer ∷ End ∷ []
-follows (end count) = []
-
+-- ---- the end
 abbrev pub is-end : Said → Bool
 is-end (machine c t d s) = false
 is-end (regions place ns) = false

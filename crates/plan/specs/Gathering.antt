@@ -1,7 +1,7 @@
 -- What was read of a plan so far, as the scratch of the reader holds it.
 use mathlib.Core.Path.{_≡_}
 use mathlib.Core.List.{List}
-use Prim.Native.Nat.{ℕ, _≤_, _<_}
+use Prim.Native.Nat.{_≤_, _<_}
 use denote.Ref.{now}
 use lib.ListN.{length, take}
 use Rattle.words.specs.Records.{Said, machine, regions, task, channel, exec, transfer, end}

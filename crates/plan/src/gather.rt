@@ -1,14 +1,9 @@
 // Gathers the numbers of a plan from its file, with no memory but its own.
 ghost use mathlib.Core.Path.{_≡_};
-ghost use mathlib.Core.Bool.{false};
-ghost use Prim.Native.Nat.{_<_};
-ghost use lib.ListN.{length};
 ghost use Rattle.std.specs.Results.{Cases};
 ghost use Rattle.std.specs.declared.result.Result.the-variants.{Ok, Err};
 ghost use Rattle.words.specs.Seen.{said};
-ghost use Rattle.plan.specs.Files.{follows};
 ghost use Rattle.plan.specs.Gathering.{gathered, Counted, Goes, Roomy};
-ghost use Rattle.plan.specs.Plans.{plan-of};
 ghost use Rattle.plan.specs.Reading.{then, plan-rules, read-plan};
 ghost use Rattle.plan.specs.Shown.{shown};
 use crate::check::check;
@@ -20,21 +15,6 @@ use crate::model::Task;
 use words::Kind;
 use words::Reader;
 use words::Record;
-
-// What may come after a record.
-fn follows(found: Record<'_>) -> &'static [Kind]
-    ensures { λ r. ⌜ now r ≡ follows (said (found .entry)) ⌝ }
-{
-    match found {
-        Record::Machine { .. } => &[Kind::Regions],
-        Record::Regions { .. } => &[Kind::Task],
-        Record::Task { .. } => &[Kind::Task, Kind::Channel, Kind::End],
-        Record::Channel { .. } => &[Kind::Channel, Kind::End],
-        Record::Exec { .. } => &[Kind::Exec, Kind::Transfer, Kind::End],
-        Record::Transfer { .. } => &[Kind::Transfer, Kind::End],
-        Record::End { .. } => &[],
-    }
-}
 
 // Before the first record.
 fn nothing<'a>() -> Gathered<'a>
@@ -125,6 +105,6 @@ pub(crate) fn gather(words: &[u32]) -> Result<Gathered<'_>, Fault>
             return Ok(so_far);
         }
         note(&mut so_far, found);
-        kinds = follows(found);
+        kinds = found.follows();
     }
 }

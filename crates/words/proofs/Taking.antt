@@ -1,8 +1,8 @@
 -- What is taken off a row of words is what was written, and what is written can be taken.
-use mathlib.Core.Path.{_≡_, refl, sym, ap, _∙_, subst}
-use mathlib.Core.Bool.{Bool, true, false, cond}
+use mathlib.Core.Path.{_≡_, refl, sym, ap, _∙_}
+use mathlib.Core.Bool.{true}
 use mathlib.Core.List.{List, [], _∷_, _++_}
-use Prim.Native.Nat.{ℕ, zero, suc, _+_, _*_, _/_, _%_, _≤_, _<_}
+use Prim.Native.Nat.{ℕ, zero, suc, _+_, _/_, _%_, _≤_, _<_}
 use native.Mathlib.Omega.{arith}
 use lib.Dec.{leb}
 use lib.ListN.{length, take, drop, getD}
@@ -20,7 +20,7 @@ use Rattle.words.specs.declared.kind.Kind.{Kind}
 use Rattle.words.specs.declared.kind.Kind.the-variants.{Machine, Regions, Task, Channel, Exec, Transfer, End}
 use Rattle.words.specs.declared.kind.Opening.{Opening}
 use Rattle.words.specs.Kinds.{code, kind-of, word, opening-of, one-of}
-use Rattle.words.specs.Records.{Said, machine, regions, task, channel, exec, transfer, end, opener, number-of, fields-of, words-of, Small, Sayable, and-then, opening, opens, width, width-by, plain, following, saying, saying-by, filled, record-at}
+use Rattle.words.specs.Records.{Said, machine, regions, task, channel, exec, transfer, end, opener, words-of, Small, Sayable, and-then, opens, width, width-by, plain, following, saying, saying-by, filled, record-at}
 
 -- ---- the plain words of a record
 pub plain-ok : (place : ℕ) (ws : List ℕ) → plain place ws ≡ Ok tt → All Small ws

@@ -1,5 +1,5 @@
 -- A record is an opening word and the plain words that go with it.
-use mathlib.Core.Bool.{Bool, true, false, cond}
+use mathlib.Core.Bool.{cond}
 use mathlib.Core.List.{List, [], _∷_}
 use mathlib.Core.Path.{_≡_}
 use Prim.Native.Nat.{ℕ, _+_, _<_}
@@ -78,6 +78,16 @@ Placed at (end count) = Unit {0}
 -- words at this place can say it
 abbrev pub Sayable : ℕ → Said → Type 0
 Sayable at x = Small (number-of x) × All Small (fields-of x) × Placed at x
+
+-- the kinds that may open the record after it
+abbrev pub follows : Said → List Kind
+follows (machine c t d s) = Regions ∷ []
+follows (regions place ns) = Task ∷ []
+follows (task limit local) = Task ∷ Channel ∷ End ∷ []
+follows (channel bytes pair) = Channel ∷ End ∷ []
+follows (exec start seat) = Exec ∷ Transfer ∷ End ∷ []
+follows (transfer start side) = Transfer ∷ End ∷ []
+follows (end count) = []
 
 -- ---- taking a record off a row of words
 -- a then b, unless a is refused

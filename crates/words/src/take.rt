@@ -1,9 +1,9 @@
 // Takes the records of a file one by one.
 ghost use mathlib.Core.Path.{_≡_};
-ghost use Prim.Native.Nat.{ℕ, _+_, _^_, _≤_, _<_};
+ghost use Prim.Native.Nat.{_+_, _^_, _<_};
 ghost use lib.ListN.{length};
 ghost use Rattle.words.specs.Kinds.{one-of};
-ghost use Rattle.words.specs.Records.{opening, plain, following, width, saying, record-at};
+ghost use Rattle.words.specs.Records.{opening, plain, following, width, saying, record-at, follows};
 ghost use Rattle.words.specs.Seen.{opened, followed, said, taken, Reads};
 use crate::fault::Fault;
 use crate::kind::Kind;
@@ -143,5 +143,22 @@ impl<'a> Reader<'a> {
         self.place += self.rest.len() - rest.len();
         self.rest = rest;
         Ok(found)
+    }
+}
+
+impl Record<'_> {
+    // The kinds that may open the record after it.
+    pub fn follows(self) -> &'static [Kind]
+        ensures { λ r. ⌜ now r ≡ follows (said (self .entry)) ⌝ }
+    {
+        match self {
+            Record::Machine { .. } => &[Kind::Regions],
+            Record::Regions { .. } => &[Kind::Task],
+            Record::Task { .. } => &[Kind::Task, Kind::Channel, Kind::End],
+            Record::Channel { .. } => &[Kind::Channel, Kind::End],
+            Record::Exec { .. } => &[Kind::Exec, Kind::Transfer, Kind::End],
+            Record::Transfer { .. } => &[Kind::Transfer, Kind::End],
+            Record::End { .. } => &[],
+        }
     }
 }

@@ -1,4 +1,4 @@
-use mathlib.Core.Path.{_≡_, refl, _∙_}
+use mathlib.Core.Path.{refl}
 use Rattle.std.proofs.shelf.Results.{err-from-errBy}
 use Rattle.words.specs.Seen.{said}
 use Rattle.plan.proofs.Going.{not-end, going-more, going-less, going-end, going-fault, going-roomy}

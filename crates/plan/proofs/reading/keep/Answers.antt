@@ -1,8 +1,6 @@
 use mathlib.Core.Path.{_≡_}
-use Prim.Native.Nat.{_<_}
-use native.Mathlib.Omega.{arith}
 use borrow.Author.Needs.{needs}
-use lib.ListN.{length, take}
+use lib.ListN.{take}
 use Rattle.std.specs.Of.Vec.{vec-items}
 use Rattle.plan.proofs.Keeps.{valid-at}
 use Rattle.plan.proofs.reading.keep.Needs as need

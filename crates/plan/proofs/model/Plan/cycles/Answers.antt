@@ -1,5 +1,5 @@
 use mathlib.Core.Path.{refl}
-use Prim.Native.Nat.{_≤_, _*_, _/_, _+_, _-_}
+use Prim.Native.Nat.{_≤_, _/_, _+_, _-_}
 use native.Mathlib.Omega.{arith}
 use native.Mathlib.Nat.{div-le-self}
 use Rattle.std.proofs.shelf.Bits.{mul-le}
