@@ -15,7 +15,7 @@ use std::alloc::Global;
 const DIGITS: u32 = 8;
 
 // Why a text gives no words: no memory, or a token that is no word, by the line and the column of its first byte.
-#[derive(Clone, Copy, Debug, PartialEq, Eq)]
+#[derive(Clone, Copy)]
 pub enum HexError {
     NoMemory,
     Token { line: usize, column: usize },

@@ -4,14 +4,11 @@ ghost use Rattle.plan.specs.declared.fault.Fault.the-variants.{Words};
 ghost use Rattle.plan.specs.declared.fault.ReadError.the-variants.{NoMemory, Refused as RefusedBy};
 ghost use Rattle.plan.specs.Shown.{shown, refusal-of};
 use std::alloc::AllocError;
-use words::FaultDebug as WordsFaultDebug;
-use words::FaultEq as WordsFaultEq;
-use words::FaultPartialEq as WordsFaultPartialEq;
 use words::Layer;
 use words::Refusal;
 
 // What can be wrong with the records of a file.
-#[derive(Clone, Copy, Debug, PartialEq, Eq)]
+#[derive(Clone, Copy)]
 pub enum Fault {
     // What the words below it found.
     Words(words::Fault),
@@ -56,7 +53,7 @@ pub impl From<words::Fault> for Fault as FaultFromWords {
 }
 
 // Why reading gives no plan.
-#[derive(Clone, Copy, Debug, PartialEq, Eq)]
+#[derive(Clone, Copy)]
 pub enum ReadError {
     NoMemory,
     Refused(Fault),

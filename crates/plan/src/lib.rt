@@ -7,6 +7,8 @@ mod gathered;
 mod model;
 mod parts;
 mod reading;
+#[cfg(test)]
+mod tests;
 
 pub use fault::Fault;
 pub use fault::FaultFromWords;

@@ -6,14 +6,14 @@ ghost use Rattle.std.specs.shelf.Lists.{sum};
 ghost use Rattle.plan.specs.Ranges.{Between, Throughout, Task-fits, Channel-fits};
 
 // A task runs for at most `limit` cycles and keeps `local` bytes of its own.
-#[derive(Clone, Copy, Debug, PartialEq, Eq)]
+#[derive(Clone, Copy)]
 pub struct Task {
     pub limit: u32,
     pub local: u32,
 }
 
 // A channel carries `bytes` from its producer to its consumer, each by its task number.
-#[derive(Clone, Copy, Debug, PartialEq, Eq)]
+#[derive(Clone, Copy)]
 pub struct Channel {
     pub from: usize,
     pub to: usize,

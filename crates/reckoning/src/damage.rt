@@ -40,7 +40,7 @@ pub const DAMAGES: [Damage; 11] = [
 ];
 
 impl Damage {
-    pub fn name(self) -> &'static str {
+    pub(crate) fn name(self) -> &'static str {
         match self {
             Damage::Unharmed => "unharmed",
             Damage::Cut => "cut short",
@@ -58,7 +58,7 @@ impl Damage {
 }
 
 // The file with another word at this place.
-pub fn with_word(
+pub(crate) fn with_word(
     heap: Global,
     file: &[u32],
     place: usize,
@@ -73,7 +73,7 @@ pub fn with_word(
 }
 
 // The file without the word at this place.
-pub fn without(heap: Global, file: &[u32], place: usize) -> Result<Vec<u32>, AllocError>
+pub(crate) fn without(heap: Global, file: &[u32], place: usize) -> Result<Vec<u32>, AllocError>
     requires { ⌜ place < length (now file) ⌝ }
     ensures { λ r. ⌜ made r (λ v. vec-items v ≡ removed (now (file .entry)) place) ⌝ }
 {
@@ -83,7 +83,7 @@ pub fn without(heap: Global, file: &[u32], place: usize) -> Result<Vec<u32>, All
 }
 
 // The file with the word at this place twice.
-pub fn doubled(heap: Global, file: &[u32], place: usize) -> Result<Vec<u32>, AllocError>
+pub(crate) fn doubled(heap: Global, file: &[u32], place: usize) -> Result<Vec<u32>, AllocError>
     requires { ⌜ place < length (now file) ⌝ }
     ensures { λ r. ⌜ made r (λ v. vec-items v ≡ inserted (now (file .entry)) place (getD (now (file .entry)) place 0)) ⌝ }
 {
@@ -93,7 +93,7 @@ pub fn doubled(heap: Global, file: &[u32], place: usize) -> Result<Vec<u32>, All
 }
 
 // The file with more words behind it.
-pub fn with_more(heap: Global, file: &[u32], more: &[u32]) -> Result<Vec<u32>, AllocError>
+pub(crate) fn with_more(heap: Global, file: &[u32], more: &[u32]) -> Result<Vec<u32>, AllocError>
     ensures { λ r. ⌜ made r (λ v. vec-items v ≡ now (file .entry) ++ now (more .entry)) ⌝ }
 {
     let mut words = Vec::from_slice(heap, file)?;

@@ -7,7 +7,7 @@ use std::alloc::AllocError;
 use std::alloc::Global;
 
 // A word of this kind and this number.
-pub fn word(kind: u32, number: u32) -> u32
+pub(crate) fn word(kind: u32, number: u32) -> u32
     ensures { λ r. ⌜ r ≡ kind % 8 * 536870912 + number % 536870912 ⌝ }
 {
     kind % 8 * 0x2000_0000 + number % 0x2000_0000
@@ -20,13 +20,18 @@ pub struct Draft {
 }
 
 impl Draft {
-    pub fn new(heap: Global) -> Draft {
+    pub(crate) fn new(heap: Global) -> Draft {
         Draft {
             words: Vec::new(heap),
         }
     }
 
-    pub fn record(&mut self, kind: u32, number: u32, plain: &[u32]) -> Result<(), AllocError> {
+    pub(crate) fn record(
+        &mut self,
+        kind: u32,
+        number: u32,
+        plain: &[u32],
+    ) -> Result<(), AllocError> {
         self.words.push(word(kind, number))?;
         for number in plain {
             self.words.push(word(0, *number))?;
@@ -34,7 +39,7 @@ impl Draft {
         Ok(())
     }
 
-    pub fn machine(
+    pub(crate) fn machine(
         &mut self,
         cores: u32,
         slot_time: u32,
@@ -45,20 +50,20 @@ impl Draft {
     }
 
     // So many regions are told of, whatever sizes follow.
-    pub fn regions(&mut self, count: u32, sizes: &[u32]) -> Result<(), AllocError> {
+    pub(crate) fn regions(&mut self, count: u32, sizes: &[u32]) -> Result<(), AllocError> {
         self.record(2, count, sizes)
     }
 
-    pub fn task(&mut self, limit: u32, local: u32) -> Result<(), AllocError> {
+    pub(crate) fn task(&mut self, limit: u32, local: u32) -> Result<(), AllocError> {
         self.record(3, limit, &[local])
     }
 
-    pub fn channel(&mut self, bytes: u32, from: u32, to: u32) -> Result<(), AllocError> {
+    pub(crate) fn channel(&mut self, bytes: u32, from: u32, to: u32) -> Result<(), AllocError> {
         self.record(4, bytes, &[from % 64 * 64 + to % 64])
     }
 
     // The file, with its end word.
-    pub fn end(mut self) -> Result<Vec<u32>, AllocError>
+    pub(crate) fn end(mut self) -> Result<Vec<u32>, AllocError>
         ensures { λ r. ⌜ made r (λ v. vec-len v ≡ vec-len (self .words) + 1) ⌝ }
     {
         let count = u32::try_from(self.words.len()).unwrap_or(0);
@@ -68,26 +73,8 @@ impl Draft {
     }
 }
 
-// The plan that the documents use as their example.
-pub const TWO_TASKS: [u32; 14] = [
-    0x2000_0002,
-    0x0000_0004,
-    0x0000_000C,
-    0x0000_0064,
-    0x4000_0002,
-    0x0000_003C,
-    0x0000_0028,
-    0x6000_000A,
-    0x0000_0014,
-    0x6000_0006,
-    0x0000_001E,
-    0x8000_0018,
-    0x0000_0001,
-    0xE000_000D,
-];
-
 // A plan with so many tasks and channels, their numbers varied, and five regions that fill the scratchpad.
-pub fn varied(heap: Global, tasks: u32, channels: u32) -> Result<Vec<u32>, AllocError> {
+pub(crate) fn varied(heap: Global, tasks: u32, channels: u32) -> Result<Vec<u32>, AllocError> {
     let mut draft = Draft::new(heap);
     draft.machine(4, 7, 48, 40_000)?;
     draft.regions(5, &[16_000, 12_000, 8_000, 3_000, 1_000])?;
@@ -104,7 +91,7 @@ pub fn varied(heap: Global, tasks: u32, channels: u32) -> Result<Vec<u32>, Alloc
 }
 
 // A plan with as much of everything as there may be, every number at its upper bound.
-pub fn largest(heap: Global) -> Result<Vec<u32>, AllocError> {
+pub(crate) fn largest(heap: Global) -> Result<Vec<u32>, AllocError> {
     let mut draft = Draft::new(heap);
     draft.machine(8, 100, 256, 1_048_576)?;
     draft.regions(8, &[131_072; 8])?;

@@ -5,8 +5,6 @@ mod outcome;
 mod rounds;
 mod sweep;
 mod tally;
-#[cfg(test)]
-mod tests;
 mod trial;
 
 use std::error::AnyError;

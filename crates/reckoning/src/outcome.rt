@@ -48,7 +48,7 @@ pub enum Outcome {
 }
 
 impl Numbers {
-    pub fn of(heap: Global, plan: &Plan) -> Result<Numbers, AllocError>
+    pub(crate) fn of(heap: Global, plan: &Plan) -> Result<Numbers, AllocError>
         ensures cores { λ r. ⌜ made r (λ n. n .cores ≡ view (now (plan .entry)) .cores) ⌝ }
         ensures slot_time { λ r. ⌜ made r (λ n. n .«slot_time» ≡ view (now (plan .entry)) .slot-time) ⌝ }
         ensures slot_load { λ r. ⌜ made r (λ n. n .«slot_load» ≡ view (now (plan .entry)) .slot-load) ⌝ }
@@ -86,7 +86,7 @@ impl Numbers {
 
 impl Outcome {
     // What the proved reader answers.
-    pub fn proved(heap: Global, words: &[u32]) -> Result<Outcome, AllocError>
+    pub(crate) fn proved(heap: Global, words: &[u32]) -> Result<Outcome, AllocError>
         ensures { λ r. ⌜ made r (λ o. elim o [ Read _ ↦ Says-plan (now (words .entry)) | Refused f ↦ read-plan (now (words .entry)) ≡ Err f ]) ⌝ }
     {
         match Plan::read(heap, words) {
@@ -97,7 +97,7 @@ impl Outcome {
     }
 
     // The number of the refusal, or 0 where there is a plan.
-    pub fn number(&self) -> u32
+    pub(crate) fn number(&self) -> u32
         ensures { λ r. ⌜ elim (now (self .entry)) [ Read _ ↦ r ≡ 0 | Refused f ↦ r ≡ f .number ] ⌝ }
     {
         match self {

@@ -289,7 +289,7 @@ fn numbers(heap: Global, words: &[u32]) -> Result<Numbers, AllocError> {
 }
 
 // What the second reader answers.
-pub fn second(heap: Global, words: &[u32]) -> Result<Outcome, AllocError> {
+pub(crate) fn second(heap: Global, words: &[u32]) -> Result<Outcome, AllocError> {
     match first_complaint(words) {
         Some(complaint) => Ok(Outcome::Refused(complaint.refusal())),
         None => Ok(Outcome::Read(numbers(heap, words)?)),

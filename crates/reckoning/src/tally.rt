@@ -21,7 +21,7 @@ fn bump(row: &mut Row, number: u32) {
 }
 
 impl Tally {
-    pub fn new() -> Tally {
+    pub(crate) fn new() -> Tally {
         Tally {
             rows: [[0; 8]; 11],
             all: [0; 8],
@@ -29,14 +29,14 @@ impl Tally {
         }
     }
 
-    pub fn count(&mut self, damage: Damage, number: u32) {
+    pub(crate) fn count(&mut self, damage: Damage, number: u32) {
         bump(&mut self.all, number);
         if let Some(row) = self.rows.get_mut(damage as usize) {
             bump(row, number);
         }
     }
 
-    pub fn differ(&mut self) {
+    pub(crate) fn differ(&mut self) {
         self.differences = self.differences.saturating_add(1);
     }
 }

@@ -45,7 +45,7 @@ pub struct Trial {
 }
 
 impl Trial {
-    pub fn new(heap: Global) -> Trial {
+    pub(crate) fn new(heap: Global) -> Trial {
         Trial {
             heap,
             tally: Tally::new(),
@@ -53,20 +53,20 @@ impl Trial {
         }
     }
 
-    pub fn heap(&self) -> Global {
+    pub(crate) fn heap(&self) -> Global {
         self.heap
     }
 
-    pub fn tally(&self) -> &Tally {
+    pub(crate) fn tally(&self) -> &Tally {
         &self.tally
     }
 
-    pub fn first(&self) -> Option<&Difference> {
+    pub(crate) fn first(&self) -> Option<&Difference> {
         self.first.as_ref()
     }
 
     // Has both readers read the words. A difference that was found is kept.
-    pub fn file(&mut self, damage: Damage, words: &[u32]) -> Result<(), AllocError>
+    pub(crate) fn file(&mut self, damage: Damage, words: &[u32]) -> Result<(), AllocError>
         ensures { λ _. ⌜ (isSome (now (self .entry) .first) ≡ true → isSome (now (self .exit) .first) ≡ true) ⌝ }
     {
         let proved = Outcome::proved(self.heap, words)?;

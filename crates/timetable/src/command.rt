@@ -48,7 +48,7 @@ pub impl fmt::Display for Wrong<'_> as WrongDisplay {
 }
 
 // The command that these words give.
-pub fn command_of(words: &[String]) -> Result<Command<'_>, Wrong<'_>>
+pub(crate) fn command_of(words: &[String]) -> Result<Command<'_>, Wrong<'_>>
     ensures { λ r. ⌜ Given (now (words .entry)) r ⌝ }
 {
     match words {

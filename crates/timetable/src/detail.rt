@@ -29,7 +29,7 @@ pub enum Detail {
 
 impl Detail {
     // What these words show of their fault.
-    pub fn of(words: &[u32], fault: Fault) -> Detail {
+    pub(crate) fn of(words: &[u32], fault: Fault) -> Detail {
         let place = fault.refusal().place;
         match Spot::of(words, place) {
             Spot::Open(kinds) => Detail::Due {

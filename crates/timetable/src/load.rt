@@ -60,7 +60,7 @@ fn decode_raw(heap: Global, bytes: &[u8]) -> Result<Vec<u32>, LoadError>
 }
 
 // The words of the file of this name.
-pub fn load(rt: &LibcRuntime, name: &str) -> Result<Vec<u32>, LoadError> {
+pub(crate) fn load(rt: &LibcRuntime, name: &str) -> Result<Vec<u32>, LoadError> {
     let bytes = fs::read(rt, name)?;
     if is_text(name) {
         decode_text(rt.alloc(), bytes.as_slice())

@@ -4,7 +4,7 @@ ghost use Rattle.timetable.specs.Meanings.{layer-of, words-meaning, meaning-of
 use plan::Fault;
 use words::Layer;
 
-pub fn layer_name(layer: Layer) -> &'static str
+pub(crate) fn layer_name(layer: Layer) -> &'static str
     ensures { λ r. ⌜ now r ≡ layer-of layer ⌝ }
 {
     match layer {
@@ -24,7 +24,7 @@ fn words_meaning(fault: words::Fault) -> &'static str
     }
 }
 
-pub fn meaning(fault: Fault) -> &'static str
+pub(crate) fn meaning(fault: Fault) -> &'static str
     ensures { λ r. ⌜ now r ≡ meaning-of fault ⌝ }
 {
     match fault {

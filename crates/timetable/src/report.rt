@@ -38,7 +38,7 @@ enum Outcome {
 }
 
 // Tells the files one by one.
-pub fn tell_plans(rt: &LibcRuntime, files: &[String]) -> Result<(), Failed> {
+pub(crate) fn tell_plans(rt: &LibcRuntime, files: &[String]) -> Result<(), Failed> {
     let mut out = BufWriter::new(rt.stdout());
     let mut answer = Ok(());
     for (i, file) in files.iter().enumerate() {

@@ -21,7 +21,7 @@ pub struct Walk<'a> {
 }
 
 impl<'a> Walk<'a> {
-    pub fn new(words: &'a [u32]) -> Walk<'a>
+    pub(crate) fn new(words: &'a [u32]) -> Walk<'a>
         ensures place { λ r. ⌜ r .reader .place ≡ 0 ⌝ }
         ensures rest { λ r. ⌜ now (r .reader .rest) ≡ now (words .entry) ⌝ }
         ensures kinds { λ r. ⌜ now (r .kinds) ≡ Machine ∷ [] ⌝ }
@@ -33,21 +33,21 @@ impl<'a> Walk<'a> {
     }
 
     // The place of the next word.
-    pub fn place(&self) -> usize
+    pub(crate) fn place(&self) -> usize
         ensures { λ r. ⌜ r ≡ now (self .entry) .reader .place ⌝ }
     {
         self.reader.place()
     }
 
     // The kinds that may stand there.
-    pub fn kinds(&self) -> &'static [Kind]
+    pub(crate) fn kinds(&self) -> &'static [Kind]
         ensures { λ r. ⌜ now r ≡ now (now (self .entry) .kinds) ⌝ }
     {
         self.kinds
     }
 
     // The next record, or none where the words do not go on with one.
-    pub fn step(&mut self) -> Option<Step<'a>>
+    pub(crate) fn step(&mut self) -> Option<Step<'a>>
         ensures { λ r. ⌜ Steps (now (self .entry)) r (now (self .exit)) ⌝ }
     {
         let place = self.reader.place();
@@ -71,7 +71,7 @@ pub enum Spot<'a> {
 }
 
 impl<'a> Spot<'a> {
-    pub fn of(words: &'a [u32], place: usize) -> Spot<'a> {
+    pub(crate) fn of(words: &'a [u32], place: usize) -> Spot<'a> {
         let mut walk = Walk::new(words);
         // Each record has a word at least.
         for _ in 0..words.len() {

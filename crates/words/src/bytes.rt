@@ -3,14 +3,12 @@ ghost use mathlib.Core.Path.{_≡_};
 ghost use Rattle.words.specs.declared.bytes.BytesError.the-variants.{NoMemory};
 ghost use Rattle.words.specs.Bytes.{Read, Written};
 use crate::fault::Fault;
-use crate::fault::FaultDebug;
-use crate::fault::FaultPartialEq;
 use std::alloc::AllocError;
 use std::alloc::Global;
 use std::alloc::Refused;
 
 // Why bytes give no words.
-#[derive(Clone, Copy, Debug, PartialEq, Eq)]
+#[derive(Clone, Copy)]
 pub enum BytesError {
     NoMemory,
     Cut(Fault),

@@ -20,7 +20,7 @@ pub struct Refusal {
 }
 
 // What can be wrong with words, whatever they are to say.
-#[derive(Clone, Copy, Debug, PartialEq, Eq)]
+#[derive(Clone, Copy)]
 pub enum Fault {
     // The file ended where a word was due.
     Ended { place: usize },

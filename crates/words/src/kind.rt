@@ -3,7 +3,7 @@ ghost use mathlib.Core.Path.{_≡_};
 ghost use Rattle.words.specs.Kinds.{code, kind-of, opening-of};
 
 // The kinds that open a record. A word of kind 0 is plain: it belongs to the record before it.
-#[derive(Clone, Copy, Debug, PartialEq, Eq)]
+#[derive(Clone, Copy)]
 pub enum Kind {
     Machine = 1,
     Regions = 2,
@@ -16,14 +16,14 @@ pub enum Kind {
 
 impl Kind {
     // The kind as a file has it, 1 to 7.
-    pub fn code(self) -> u32
+    pub(crate) fn code(self) -> u32
         ensures { λ r. ⌜ r ≡ code self ⌝ }
     {
         self as u32
     }
 
     // The kind with this number, or none.
-    pub fn of(code: u32) -> Option<Kind>
+    pub(crate) fn of(code: u32) -> Option<Kind>
         ensures { λ r. ⌜ r ≡ kind-of code ⌝ }
     {
         match code {
@@ -40,7 +40,7 @@ impl Kind {
 }
 
 // A word that opens a record.
-#[derive(Clone, Copy, Debug, PartialEq, Eq)]
+#[derive(Clone, Copy)]
 pub struct Opening {
     pub kind: Kind,
     pub number: u32,
