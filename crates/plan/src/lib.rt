@@ -7,8 +7,6 @@ mod gathered;
 mod model;
 mod parts;
 mod reading;
-#[cfg(test)]
-mod tests;
 
 pub use fault::Fault;
 pub use fault::FaultFromWords;

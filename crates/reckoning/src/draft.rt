@@ -103,3 +103,21 @@ pub(crate) fn largest(heap: Global) -> Result<Vec<u32>, AllocError> {
     }
     draft.end()
 }
+
+// The two-task plan, on which the worked examples stand.
+pub const TWO_TASKS: [u32; 14] = [
+    0x2000_0002,
+    4,
+    12,
+    100,
+    0x4000_0002,
+    60,
+    40,
+    0x6000_000A,
+    20,
+    0x6000_0006,
+    30,
+    0x8000_0018,
+    1,
+    0xE000_000D,
+];

@@ -8,11 +8,11 @@ use crate::damage::with_more;
 use crate::damage::with_word;
 use crate::damage::without;
 use crate::draft::Draft;
+use crate::draft::TWO_TASKS;
 use crate::draft::largest;
 use crate::draft::varied;
 use crate::draft::word;
 use crate::trial::Trial;
-use cases::two_task;
 use std::alloc::AllocError;
 
 // Numbers at the bounds of the ranges, and just past them.
@@ -296,10 +296,10 @@ fn mixed(trial: &mut Trial, file: &[u32], times: u32) -> Result<(), AllocError> 
 pub(crate) fn all(trial: &mut Trial) -> Result<(), AllocError> {
     let larger = varied(trial.heap(), 20, 60)?;
     let largest = largest(trial.heap())?;
-    everywhere(trial, two_task())?;
+    everywhere(trial, &TWO_TASKS)?;
     everywhere(trial, &larger)?;
     everywhere(trial, &largest)?;
-    at_places(trial, two_task(), Places::ALL)?;
+    at_places(trial, &TWO_TASKS, Places::ALL)?;
     at_places(trial, &larger, Places::ALL)?;
     at_places(trial, &largest, Places { from: 0, stride: 9 })?;
     pairs(trial, 5)?;
@@ -307,6 +307,6 @@ pub(crate) fn all(trial: &mut Trial) -> Result<(), AllocError> {
         region_counts(trial, size)?;
     }
     task_and_channel_counts(trial)?;
-    mixed(trial, two_task(), 1_000)?;
+    mixed(trial, &TWO_TASKS, 1_000)?;
     mixed(trial, &larger, 2_000)
 }

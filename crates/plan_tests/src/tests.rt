@@ -1,5 +1,5 @@
 // What reading answers to files whose answers are known.
-use crate::model::Plan;
+use plan::Plan;
 use std::alloc::AllocError;
 use std::alloc::Global;
 use std::test::*;
