@@ -3,7 +3,7 @@ ghost use mathlib.Core.Path.{_≡_};
 ghost use Prim.Native.Nat.{_≤_};
 ghost use Rattle.std.specs.shelf.Lists.{sumBy};
 ghost use lib.ListN.{length};
-ghost use Rattle.plan.specs.Plans.{cycles, Rounds-up, exec-length, transfer-length, bytes-for, need, if-task, if-channel};
+ghost use Rattle.plan.specs.Plans.{divided-up, cycles, Rounds-up, exec-length, transfer-length, bytes-for, need, if-task, if-channel};
 ghost use Rattle.plan.specs.Ranges.{Throughout};
 ghost use Rattle.plan.specs.Views.{view};
 use crate::model::Channel;
@@ -15,8 +15,7 @@ impl Plan {
         ensures value { λ r. ⌜ r ≡ cycles (view (now (self .entry))) bytes ⌝ }
         ensures law { λ _. ⌜ Rounds-up ⌝ }
     {
-        let load = self.slot_load as u64;
-        (bytes as u64 + (load - 1)) / load * self.slot_time as u64
+        slots(bytes, self.slot_load) * self.slot_time as u64
     }
 
     // The length of a task's exec, or none where the plan lacks the task.
@@ -49,6 +48,16 @@ impl Plan {
             None => None,
         }
     }
+}
+
+// How many slots of this load hold these bytes.
+fn slots(bytes: u32, load: u32) -> u64
+    requires { ⌜ 1 ≤ load ⌝ }
+    ensures value { λ r. ⌜ r ≡ divided-up bytes load ⌝ }
+    ensures bound { λ r. ⌜ r ≤ bytes ⌝ }
+{
+    let load = load as u64;
+    (bytes as u64 + (load - 1)) / load
 }
 
 // The bytes of all channels of a task.
