@@ -1,4 +1,6 @@
 // The worked examples of the subject, shown of the definitions that the contracts cite.
+#![tactic(auto)]
+
 ghost use Rattle.std.specs.Prelude.{◌≡◌};
 ghost use Rattle.cases.specs.Worked.{two_task_words, WorkedCases};
 

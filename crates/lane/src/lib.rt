@@ -1,4 +1,6 @@
 // Claims on resources: how many cycles a claim has alone, and where a resource has its earliest gap.
+#![tactic(auto)]
+
 mod claim;
 mod gaps;
 mod stretches;

@@ -1,4 +1,6 @@
 // The placements that a timetable file says, read for one plan, and the refusals of the layer sheet.
+#![tactic(auto)]
+
 mod check;
 mod fault;
 mod gathered;

@@ -1,4 +1,6 @@
 // Plans: the board, its tasks and its channels, read from a file.
+#![tactic(auto)]
+
 mod error;
 mod facts;
 mod model;

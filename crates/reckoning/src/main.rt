@@ -1,4 +1,6 @@
 // Holds the proved reader of plan files against a second one, over whole files and thousands of damaged ones.
+#![tactic(auto)]
+
 mod damage;
 mod draft;
 mod outcome;

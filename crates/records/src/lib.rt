@@ -1,4 +1,6 @@
 // The records of a file, checked: what may stand where, and the numbers of a plan file.
+#![tactic(auto)]
+
 mod check;
 mod fault;
 mod gathered;

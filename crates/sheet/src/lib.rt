@@ -1,4 +1,6 @@
 // Sheets: a draft can be changed, a closed sheet can't. Closing and reopening keep all placements.
+#![tactic(auto)]
+
 mod closed;
 mod draft;
 mod model;

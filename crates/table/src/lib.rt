@@ -1,4 +1,6 @@
 // The table of a sheet: the slots of a plan, and the calls that place, withdraw and load.
+#![tactic(auto)]
+
 mod filling;
 mod model;
 mod opening;

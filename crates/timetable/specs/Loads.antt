@@ -1,7 +1,7 @@
 -- Which words the bytes of a file give.
 use Rattle.std.specs.Prelude.{◌≡◌, ℕ, Bool, true, false, List, ◌++◌, length, is_ok, Ok, Err, vec_items, codes, Result, Vec, ◌≢◌}
 use Rattle.std.specs.declared.alloc.Global.{Global}
-use Rattle.hex.specs.Scan.{words_in_text}
+use Rattle.hex_text.specs.Scan.{words_in_text}
 use Rattle.words.specs.Bytes.{words_in}
 use Rattle.timetable.specs.declared.load.LoadError.{LoadError}
 use Rattle.timetable.specs.declared.load.LoadError.TheVariants.{NoMemory, Unreadable, Cut, Token}

@@ -1,7 +1,7 @@
 // Loads the words of a file.
 ghost use Rattle.timetable.specs.Loads.{Text, FromText, FromRaw};
 
-use hex::{HexError, from_hex};
+use hex_text::{HexError, from_hex};
 use std::alloc::Global;
 use std::{fs, io};
 use words::{BytesError, Fault, from_bytes};

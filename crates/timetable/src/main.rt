@@ -1,4 +1,6 @@
 // The program `timetable`: reads plan files, and tells what they say or why they are refused.
+#![tactic(auto)]
+
 mod command;
 mod detail;
 mod load;

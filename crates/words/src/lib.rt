@@ -1,4 +1,6 @@
 // Files of 32-bit words: what a word says, how words make records, and how words are kept as bytes.
+#![tactic(auto)]
+
 mod bytes;
 mod fault;
 mod kind;

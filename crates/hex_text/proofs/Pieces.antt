@@ -5,11 +5,11 @@ use Rattle.std.proofs.lemmas.Bool.{cases_lt, cond-true, cond-false, eq-eqb, ne_e
 use Rattle.std.proofs.lemmas.Bool.Decides.{nat_tests}
 use Rattle.std.specs.Option.{option_to_list}
 use Rattle.std.specs.List.{flat_map, AllByRecursion as All}
-use Rattle.hex.specs.declared.State.{State}
-use Rattle.hex.specs.declared.State.TheVariants.{Between, Comment, Digits, Bad}
-use Rattle.hex.specs.Scan.{digit, blank, grown, opened, step, run, shed, bad, told, spot}
-use Rattle.hex.specs.Scan as hex
-use Rattle.hex.specs.Pieces.{on_some, value, token, Gap, space, note, Piece, gap, word, gap_text, piece_text, piece_words, GoodGap, Good, Last, Remark, ends, Closed, PiecesRead, TokenRefused}
+use Rattle.hex_text.specs.declared.State.{State}
+use Rattle.hex_text.specs.declared.State.TheVariants.{Between, Comment, Digits, Bad}
+use Rattle.hex_text.specs.Scan.{digit, blank, grown, opened, step, run, shed, bad, told, spot}
+use Rattle.hex_text.specs.Scan as hex
+use Rattle.hex_text.specs.Pieces.{on_some, value, token, Gap, space, note, Piece, gap, word, gap_text, piece_text, piece_words, GoodGap, Good, Last, Remark, ends, Closed, PiecesRead, TokenRefused}
 
 -- ---- a text in two parts
 run_append : (xs ys : List ℕ) (i : ℕ) (s : State) → run i s (xs ++ ys) ≡ run (i + length xs) (run i s xs) ys

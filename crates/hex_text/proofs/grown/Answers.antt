@@ -1,6 +1,6 @@
 use Rattle.std.proofs.Common.{arith}
-use Rattle.hex.proofs.Scans.{digit_at, room}
-use Rattle.hex.proofs.grown.Goals as goal
+use Rattle.hex_text.proofs.Scans.{digit_at, room}
+use Rattle.hex_text.proofs.grown.Goals as goal
 
 pub overflow-mul-result : goal.overflow-mul-result
 overflow-mul-result c = let r = room c.args.count c.args.value c.if-count-lt-DIGITS.true c.requires in omega arith

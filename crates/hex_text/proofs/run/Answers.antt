@@ -1,8 +1,8 @@
 use Rattle.std.proofs.Common.{◌≡◌, ℕ, length, sym, ◌∙◌, subst, arith}
 use Rattle.std.proofs.lemmas.List.{at_drop_all}
-use Rattle.hex.specs.Scan.{run, Sound}
-use Rattle.hex.proofs.Scans.{run_turn}
-use Rattle.hex.proofs.run.Goals as goal
+use Rattle.hex_text.specs.Scan.{run, Sound}
+use Rattle.hex_text.proofs.Scans.{run_turn}
+use Rattle.hex_text.proofs.run.Goals as goal
 
 pub loop-i-preserved : goal.loop-i-preserved
 loop-i-preserved c = run_turn c.args.text.now c.loop-i.i c.loop-i.state c.step-state.result c.loop-i-test.true c.step-state.ensures c.loop-i.invariant

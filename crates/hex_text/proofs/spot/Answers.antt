@@ -1,9 +1,9 @@
 use Rattle.std.proofs.Common.{◌≡◌, ◌+◌, cond, eqb, get_or, drop, sym, ◌∙◌, arith}
 use Rattle.std.proofs.lemmas.List.{at_drop_more, at_drop_all}
 use Rattle.std.proofs.lemmas.Bool.Decides.{nat_tests}
-use Rattle.hex.specs.Scan.{spot}
-use Rattle.hex.proofs.spot.Goals as goal
-use Rattle.hex.proofs.spot.Goals.{then-b-eq10, else-b-eq10}
+use Rattle.hex_text.specs.Scan.{spot}
+use Rattle.hex_text.proofs.spot.Goals as goal
+use Rattle.hex_text.proofs.spot.Goals.{then-b-eq10, else-b-eq10}
 
 pub loop-b-preserved : goal.loop-b-preserved
 loop-b-preserved c =

@@ -1,10 +1,10 @@
 use Rattle.std.proofs.Common.{◌≡◌, ◌++◌, vec_items, sym, ap, ◌∙◌, arith}
 use Rattle.std.proofs.lemmas.List.{at_drop_all, append-nil}
 use Rattle.std.specs.Option.{option_to_list}
-use Rattle.hex.specs.Scan.{shed, word}
-use Rattle.hex.proofs.Scans.{shed_turn}
-use Rattle.hex.proofs.shed.Goals as goal
-use Rattle.hex.proofs.shed.Goals.{in-Some+in-ok-push, in-default}
+use Rattle.hex_text.specs.Scan.{shed, word}
+use Rattle.hex_text.proofs.Scans.{shed_turn}
+use Rattle.hex_text.proofs.shed.Goals as goal
+use Rattle.hex_text.proofs.shed.Goals.{in-Some+in-ok-push, in-default}
 
 pub loop-i-preserved : goal.loop-i-preserved
 loop-i-preserved c =

@@ -3,10 +3,10 @@ use Rattle.std.specs.Prelude.{◌≡◌, ℕ, ◌+◌, ◌-◌, ◌*◌, ◌/◌
 use Rattle.std.specs.Option.{option_to_list}
 use Rattle.std.specs.declared.alloc.Global.{Global}
 use Rattle.std.specs.List.{flat_map, AllByRecursion as All}
-use Rattle.hex.specs.declared.HexError.{HexError}
-use Rattle.hex.specs.declared.HexError.TheVariants.{NoMemory, Token}
-use Rattle.hex.specs.declared.State.{State}
-use Rattle.hex.specs.declared.State.TheVariants.{Between, Comment, Digits, Bad}
+use Rattle.hex_text.specs.declared.HexError.{HexError}
+use Rattle.hex_text.specs.declared.HexError.TheVariants.{NoMemory, Token}
+use Rattle.hex_text.specs.declared.State.{State}
+use Rattle.hex_text.specs.declared.State.TheVariants.{Between, Comment, Digits, Bad}
 
 -- the value of a hexadecimal digit, '0' to '9', 'A' to 'F' or 'a' to 'f'
 abbrev pub digit : ℕ → Option ℕ

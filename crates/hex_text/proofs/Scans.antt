@@ -5,9 +5,9 @@ use Rattle.std.proofs.lemmas.List.{append_assoc, at_drop_more}
 use Rattle.std.proofs.lemmas.Bool.{cond_both}
 use Rattle.std.proofs.lemmas.Bool.Decides.{nat_tests}
 use Rattle.std.specs.Option.{option_to_list}
-use Rattle.hex.specs.declared.State.{State}
-use Rattle.hex.specs.declared.State.TheVariants.{Between, Comment, Digits, Bad}
-use Rattle.hex.specs.Scan.{digit, blank, grown_by, grown, opened, step, run, word, shed, Sound}
+use Rattle.hex_text.specs.declared.State.{State}
+use Rattle.hex_text.specs.declared.State.TheVariants.{Between, Comment, Digits, Bad}
+use Rattle.hex_text.specs.Scan.{digit, blank, grown_by, grown, opened, step, run, word, shed, Sound}
 
 pub digit_below : (b : ℕ) → IfSome (digit b) (λ d. d < 16)
 digit_below b =

@@ -5,8 +5,8 @@ use Rattle.std.proofs.lemmas.Bool.{cond_both}
 use Rattle.std.proofs.lemmas.Bool.Decides.{nat_tests}
 use Rattle.std.specs.Option.{option_to_list}
 use Rattle.std.specs.List.{AllByRecursion as All}
-use Rattle.hex.specs.declared.State.TheVariants.{Between, Digits}
-use Rattle.hex.specs.Scan.{digit, blank, step, run, word, shed, bad, told, digit_of, hex_of, ReadBack}
+use Rattle.hex_text.specs.declared.State.TheVariants.{Between, Digits}
+use Rattle.hex_text.specs.Scan.{digit, blank, step, run, word, shed, bad, told, digit_of, hex_of, ReadBack}
 
 -- ---- a digit is read as what it stands for
 digit_again : (d : ℕ) → d < 16 → digit (digit_of d) ≡ Some d

@@ -1,8 +1,8 @@
 use Rattle.std.proofs.Common.{arith}
 use Rattle.std.proofs.lemmas.Result.{err_from_is_err_and}
-use Rattle.hex.proofs.Pieces.{pieces_read, token_refused}
-use Rattle.hex.proofs.Texts.{read_back}
-use Rattle.hex.proofs.from_hex.Goals as goal
+use Rattle.hex_text.proofs.Pieces.{pieces_read, token_refused}
+use Rattle.hex_text.proofs.Texts.{read_back}
+use Rattle.hex_text.proofs.from_hex.Goals as goal
 
 pub returns-in-Some : goal.returns-in-Some
 returns-in-Some c = record { value = (let h = c.in-Some.ensures in let v = c.run.ensures.value in grind arith); back = read_back; pieces = pieces_read; refuses = token_refused }

@@ -2,7 +2,7 @@
 use Rattle.std.specs.Prelude.{◌≡◌, ℕ, ◌+◌, ◌*◌, Bool, true, false, cond, ◌||◌, List, [], ◌∷◌, ◌++◌, length, is_some, Some, None, Ok, Err, Option, ◌==◌}
 use Rattle.std.specs.Option.{option_to_list}
 use Rattle.std.specs.List.{flat_map, AllByRecursion as All}
-use Rattle.hex.specs.Scan.{digit, blank, spot, words_in_text}
+use Rattle.hex_text.specs.Scan.{digit, blank, spot, words_in_text}
 
 -- what f says of a number, if there is one
 abbrev pub on_some : Option ℕ → (ℕ → Option ℕ) → Option ℕ

@@ -1,9 +1,11 @@
 // Words as text: eight hexadecimal digits a word, blanks and line feeds between words, comments from '#' to the line feed.
+#![tactic(auto)]
+
 ghost use Rattle.std.specs.Prelude.{◌≡◌, ◌+◌, ◌^◌, ◌<◌, length, IfOk};
-ghost use Rattle.hex.specs.declared.HexError.TheVariants.{NoMemory};
-ghost use Rattle.hex.specs.declared.State.TheVariants.{Between};
-ghost use Rattle.hex.specs.Scan.{digit, blank, grown, opened, step, run, word, shed, bad, spot, Sound, Heard, ReadBack};
-ghost use Rattle.hex.specs.Pieces.{PiecesRead, TokenRefused};
+ghost use Rattle.hex_text.specs.declared.HexError.TheVariants.{NoMemory};
+ghost use Rattle.hex_text.specs.declared.State.TheVariants.{Between};
+ghost use Rattle.hex_text.specs.Scan.{digit, blank, grown, opened, step, run, word, shed, bad, spot, Sound, Heard, ReadBack};
+ghost use Rattle.hex_text.specs.Pieces.{PiecesRead, TokenRefused};
 
 use std::alloc::{AllocError, Global};
 
