@@ -1,6 +1,6 @@
 -- The law of reading a plan.
 use Rattle.std.proofs.Common.{◌≡◌, ℕ, ◌+◌, ◌*◌, ◌/◌, ◌%◌, ◌<◌, ◌≤◌, Bool, true, false, List, [], ◌∷◌, ◌++◌, map, length, Ok, sum, sym, refl, ap, ◌∙◌, arith}
-use Rattle.std.specs.List.{flat_map, AllByRecursion as All}
+use Rattle.std.specs.List.{flat_map, AllByRecursion}
 use Rattle.std.proofs.lemmas.Nat.{div-add-mod', div-mul-add, mod-mul-add}
 use Rattle.std.proofs.ByRecursion.{All-get_or, All-from_get_or, All-push, All-weaker}
 use Rattle.std.proofs.lemmas.List.{append_assoc, append-nil, length-append, length_push, map-append}
@@ -18,11 +18,11 @@ use Rattle.board.specs.Reading.{sizes_within, why, then, plan_rules, read_plan, 
 use Rattle.board.proofs.Passing.{Passes, walk_came, passes_walk, closed_at}
 
 -- ---- the sizes
-sizes_ok : (place : ℕ) (ns : List ℕ) → sizes_within place ns ≡ Ok tt → All (Between 1 1048576) ns
+sizes_ok : (place : ℕ) (ns : List ℕ) → sizes_within place ns ≡ Ok tt → AllByRecursion (Between 1 1048576) ns
 sizes_ok place [] h = tt
 sizes_ok place (n ∷ ns) h = (grind (arith, nat_tests), sizes_ok (place + 1) ns (grind (arith, nat_tests)))
 
-sizes_pass : (place : ℕ) (ns : List ℕ) → All (Between 1 1048576) ns → sizes_within place ns ≡ Ok tt
+sizes_pass : (place : ℕ) (ns : List ℕ) → AllByRecursion (Between 1 1048576) ns → sizes_within place ns ≡ Ok tt
 sizes_pass place [] h = refl
 sizes_pass place (n ∷ ns) h = let r = sizes_pass (place + 1) ns h.1 in let l = h.0 in grind (arith, nat_tests, r, l)
 
@@ -34,12 +34,12 @@ record Begun (p : PlanView) : Type 0 where
   slot_load : Between 1 256 p.slot_load
   scratchpad : Between 1 1048576 p.scratchpad
   region_count : Between 1 8 (length p.regions)
-  regions : All (Between 1 1048576) p.regions
+  regions : AllByRecursion (Between 1 1048576) p.regions
   add_up : sum p.regions ≤ p.scratchpad
   task_count : length p.tasks ≤ 64
-  tasks : All TaskFits p.tasks
+  tasks : AllByRecursion TaskFits p.tasks
   channel_count : length p.channels ≤ 256
-  channels : All (ChannelFits (length p.tasks)) p.channels
+  channels : AllByRecursion (ChannelFits (length p.tasks)) p.channels
 
 -- what may come next tells what there is
 record Stage (kinds : List Kind) (p : PlanView) : Type 0 where
@@ -200,7 +200,7 @@ read_is_written ws p h =
 
 -- ---- a plan can be read from its written form
 -- its channels, behind those that were read
-pass_channels : (p : PlanView) (cs before : List ChannelT) (kinds : List Kind) (place : ℕ) → one_of kinds Channel ≡ true → one_of kinds End ≡ true → length before + length cs ≤ 256 → length p.tasks ≤ 64 → All (ChannelFits (length p.tasks)) cs → before ++ cs ≡ p.channels → Passes plan_rules kinds (plan_of p.cores p.slot_time p.slot_load p.scratchpad p.regions p.tasks before) place (map channel_record cs) p
+pass_channels : (p : PlanView) (cs before : List ChannelT) (kinds : List Kind) (place : ℕ) → one_of kinds Channel ≡ true → one_of kinds End ≡ true → length before + length cs ≤ 256 → length p.tasks ≤ 64 → AllByRecursion (ChannelFits (length p.tasks)) cs → before ++ cs ≡ p.channels → Passes plan_rules kinds (plan_of p.cores p.slot_time p.slot_load p.scratchpad p.regions p.tasks before) place (map channel_record cs) p
 pass_channels p [] before kinds place a e l m h q =
     (e, ap (plan_of p.cores p.slot_time p.slot_load p.scratchpad p.regions p.tasks) (sym (append-nil before) ∙ q))
 pass_channels p (c ∷ cs) before kinds place a e l m h q =
@@ -222,7 +222,7 @@ pass_channels p (c ∷ cs) before kinds place a e l m h q =
     )
 
 -- its tasks, behind those that were read, and then its channels
-pass_tasks : (p : PlanView) (ts before : List TaskT) (place : ℕ) → Valid p → All (ChannelFits (length p.tasks)) p.channels → length before + length ts ≤ 64 → All TaskFits ts → before ++ ts ≡ p.tasks → Passes plan_rules (Task ∷ Channel ∷ End ∷ []) (plan_of p.cores p.slot_time p.slot_load p.scratchpad p.regions before []) place (map task_record ts ++ map channel_record p.channels) p
+pass_tasks : (p : PlanView) (ts before : List TaskT) (place : ℕ) → Valid p → AllByRecursion (ChannelFits (length p.tasks)) p.channels → length before + length ts ≤ 64 → AllByRecursion TaskFits ts → before ++ ts ≡ p.tasks → Passes plan_rules (Task ∷ Channel ∷ End ∷ []) (plan_of p.cores p.slot_time p.slot_load p.scratchpad p.regions before []) place (map task_record ts ++ map channel_record p.channels) p
 pass_tasks p [] before place v cs l h q =
     rw (sym (append-nil before) ∙ q) (pass_channels p p.channels [] (Task ∷ Channel ∷ End ∷ []) place refl refl (omega (arith, v.channel_count)) v.task_count.1 cs refl)
 pass_tasks p (t ∷ ts) before place v cs l h q =
@@ -238,7 +238,7 @@ pass_tasks p (t ∷ ts) before place v cs l h q =
     )
 
 -- the first task, which a plan has
-pass_first : (p : PlanView) (ts : List TaskT) (place : ℕ) → Valid p → All (ChannelFits (length p.tasks)) p.channels → All TaskFits ts → ts ≡ p.tasks → Passes plan_rules (Task ∷ []) (plan_of p.cores p.slot_time p.slot_load p.scratchpad p.regions [] []) place (map task_record ts ++ map channel_record p.channels) p
+pass_first : (p : PlanView) (ts : List TaskT) (place : ℕ) → Valid p → AllByRecursion (ChannelFits (length p.tasks)) p.channels → AllByRecursion TaskFits ts → ts ≡ p.tasks → Passes plan_rules (Task ∷ []) (plan_of p.cores p.slot_time p.slot_load p.scratchpad p.regions [] []) place (map task_record ts ++ map channel_record p.channels) p
 pass_first p [] place v cs h q = absurd (omega (arith, ap length q, v.task_count.0))
 pass_first p (t ∷ ts) place v cs h q =
     let f = h.0 in (

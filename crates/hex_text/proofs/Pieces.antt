@@ -4,7 +4,7 @@ use Rattle.std.proofs.lemmas.List.{append_assoc, take_at}
 use Rattle.std.proofs.lemmas.Bool.{cases_lt, cond-true, cond-false, eq-eqb, ne_eqb, or_left}
 use Rattle.std.proofs.lemmas.Bool.Decides.{nat_tests}
 use Rattle.std.specs.Option.{option_to_list}
-use Rattle.std.specs.List.{flat_map, AllByRecursion as All}
+use Rattle.std.specs.List.{flat_map, AllByRecursion}
 use Rattle.hex_text.specs.declared.State.{State}
 use Rattle.hex_text.specs.declared.State.TheVariants.{Between, Comment, Digits, Bad}
 use Rattle.hex_text.specs.Scan.{digit, blank, grown, opened, step, run, shed, bad, told, spot}
@@ -28,7 +28,7 @@ shed_append (x ∷ xs) ys i s =
     ∙ sym (append_assoc out (shed (i + 1) (step i s x) xs) (shed (i + length (x ∷ xs)) (run (i + 1) (step i s x) xs) ys))
 
 -- ---- a comment
-run_note : (bs : List ℕ) (i : ℕ) → All (λ b. eqb b 10 ≡ false) bs → (run i Comment (bs ++ 10 ∷ []) ≡ Between) × (shed i Comment (bs ++ 10 ∷ []) ≡ [])
+run_note : (bs : List ℕ) (i : ℕ) → AllByRecursion (λ b. eqb b 10 ≡ false) bs → (run i Comment (bs ++ 10 ∷ []) ≡ Between) × (shed i Comment (bs ++ 10 ∷ []) ≡ [])
 run_note [] i h = (refl, refl)
 run_note (b ∷ bs) i h =
     let e = cond-false (eqb b 10) Between Comment h.0 in
@@ -136,7 +136,7 @@ run_piece (word bs g) i h =
           ∙ ap (λ xs. xs ++ shed j (Digits i 8 w) (gap_text g)) r.1 ∙ ap (λ xs. w ∷ xs) c.1 ∙ sym (ap option_to_list t.1),
     )
 
-run_pieces : (ps : List Piece) (i : ℕ) → All Good ps → (run i Between (flat_map piece_text ps) ≡ Between) × (shed i Between (flat_map piece_text ps) ≡ flat_map piece_words ps)
+run_pieces : (ps : List Piece) (i : ℕ) → AllByRecursion Good ps → (run i Between (flat_map piece_text ps) ≡ Between) × (shed i Between (flat_map piece_text ps) ≡ flat_map piece_words ps)
 run_pieces [] i h = (refl, refl)
 run_pieces (p ∷ ps) i h =
     let one = run_piece p i h.0 in
@@ -149,7 +149,7 @@ run_pieces (p ∷ ps) i h =
     )
 
 -- ---- the end of a text
-run_remark : (bs : List ℕ) (i : ℕ) → All (λ b. eqb b 10 ≡ false) bs → (run i Comment bs ≡ Comment) × (shed i Comment bs ≡ [])
+run_remark : (bs : List ℕ) (i : ℕ) → AllByRecursion (λ b. eqb b 10 ≡ false) bs → (run i Comment bs ≡ Comment) × (shed i Comment bs ≡ [])
 run_remark [] i h = (refl, refl)
 run_remark (b ∷ bs) i h =
     let e = cond-false (eqb b 10) Between Comment h.0 in
@@ -200,7 +200,7 @@ run_bad : (bs : List ℕ) (i start : ℕ) → run i (Bad start) bs ≡ Bad start
 run_bad [] i start = refl
 run_bad (b ∷ bs) i start = run_bad bs (i + 1) start
 
-stuck : (bs : List ℕ) (i start count v : ℕ) → All (λ x. ends x ≡ false) bs → count ≤ 8 → ((w : ℕ) → value v bs ≡ Some w → count + length bs ≡ 8 → ⊥) → bad (run i (Digits start count v) bs) ≡ Some start
+stuck : (bs : List ℕ) (i start count v : ℕ) → AllByRecursion (λ x. ends x ≡ false) bs → count ≤ 8 → ((w : ℕ) → value v bs ≡ Some w → count + length bs ≡ 8 → ⊥) → bad (run i (Digits start count v) bs) ≡ Some start
 stuck [] i start count v h l n = cond-false (eqb count 8) None (Some start) (ne_eqb count 8 (λ e. n v refl (omega arith)))
 stuck (b ∷ bs) i start count v h l n =
     let f : ℕ → Option ℕ = λ d. value (v * 16 + d) bs in

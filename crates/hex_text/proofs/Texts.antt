@@ -4,7 +4,7 @@ use Rattle.std.proofs.lemmas.Nat.{div-add-mod'}
 use Rattle.std.proofs.lemmas.Bool.{cond_both}
 use Rattle.std.proofs.lemmas.Bool.Decides.{nat_tests}
 use Rattle.std.specs.Option.{option_to_list}
-use Rattle.std.specs.List.{AllByRecursion as All}
+use Rattle.std.specs.List.{AllByRecursion}
 use Rattle.hex_text.specs.declared.State.TheVariants.{Between, Digits}
 use Rattle.hex_text.specs.Scan.{digit, blank, step, run, word, shed, bad, told, digit_of, hex_of, ReadBack}
 
@@ -80,7 +80,7 @@ run_back : (ws : List ℕ) (i : ℕ) → run i Between (hex_of ws) ≡ Between
 run_back [] i = refl
 run_back (w ∷ ws) i = run_line i (w / 268435456 % 16) (w / 16777216 % 16) (w / 1048576 % 16) (w / 65536 % 16) (w / 4096 % 16) (w / 256 % 16) (w / 16 % 16) (w % 16) (hex_of ws) (omega arith) (omega arith) (omega arith) (omega arith) (omega arith) (omega arith) (omega arith) (omega arith) ∙ run_back ws (i + 1 + 1 + 1 + 1 + 1 + 1 + 1 + 1 + 1)
 
-shed_back : (ws : List ℕ) (i : ℕ) → All (λ w. w < 2 ^ 32) ws → shed i Between (hex_of ws) ≡ ws
+shed_back : (ws : List ℕ) (i : ℕ) → AllByRecursion (λ w. w < 2 ^ 32) ws → shed i Between (hex_of ws) ≡ ws
 shed_back [] i h = refl
 shed_back (w ∷ ws) i h =
     let e = shed_line i (w / 268435456 % 16) (w / 16777216 % 16) (w / 1048576 % 16) (w / 65536 % 16) (w / 4096 % 16) (w / 256 % 16) (w / 16 % 16) (w % 16) (hex_of ws) (omega arith) (omega arith) (omega arith) (omega arith) (omega arith) (omega arith) (omega arith) (omega arith) in

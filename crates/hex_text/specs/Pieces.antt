@@ -1,7 +1,7 @@
 -- A text in pieces: gaps, and words with the gap behind them. A gap is a blank or a comment.
 use Rattle.std.specs.Prelude.{◌≡◌, ℕ, ◌+◌, ◌*◌, Bool, true, false, cond, ◌||◌, List, [], ◌∷◌, ◌++◌, length, is_some, Some, None, Ok, Err, Option, ◌==◌}
 use Rattle.std.specs.Option.{option_to_list}
-use Rattle.std.specs.List.{flat_map, AllByRecursion as All}
+use Rattle.std.specs.List.{flat_map, AllByRecursion}
 use Rattle.hex_text.specs.Scan.{digit, blank, spot, words_in_text}
 
 -- what f says of a number, if there is one
@@ -46,7 +46,7 @@ piece_words (word bs g) = option_to_list (token bs)
 -- a gap's byte is a blank, its comment has no line feed
 abbrev pub GoodGap : Gap → Type 0
 GoodGap (space b) = blank b ≡ true
-GoodGap (note bs) = All (λ b. (b == 10) ≡ false) bs
+GoodGap (note bs) = AllByRecursion (λ b. (b == 10) ≡ false) bs
 
 -- a piece's word is eight digits, and its gap is good
 abbrev pub Good : Piece → Type 0
@@ -61,7 +61,7 @@ Last (b ∷ bs) = is_some (token (b ∷ bs)) ≡ true
 -- and behind that a comment with no line feed, or none
 abbrev pub Remark : List ℕ → Type 0
 Remark [] = Unit {0}
-Remark (b ∷ bs) = (b ≡ 35) × All (λ x. (x == 10) ≡ false) bs
+Remark (b ∷ bs) = (b ≡ 35) × AllByRecursion (λ x. (x == 10) ≡ false) bs
 
 -- a byte that ends a token
 abbrev pub ends : ℕ → Bool
@@ -75,11 +75,11 @@ Closed (b ∷ bs) = ends b ≡ true
 -- a text of good pieces says the words in them
 abbrev pub PiecesRead : Type 0
 PiecesRead =
-    (ps : List Piece) (last remark : List ℕ) → All Good ps → Last last → Remark remark
+    (ps : List Piece) (last remark : List ℕ) → AllByRecursion Good ps → Last last → Remark remark
     → words_in_text (flat_map piece_text ps ++ (last ++ remark)) ≡ Ok (flat_map piece_words ps ++ option_to_list (token last))
 
 -- the first token that is no word is refused, by the line and the column behind the good pieces before it
 abbrev pub TokenRefused : Type 0
 TokenRefused =
-    (ps : List Piece) (b : ℕ) (bs rest : List ℕ) → All Good ps → All (λ x. ends x ≡ false) (b ∷ bs) → token (b ∷ bs) ≡ None → Closed rest
+    (ps : List Piece) (b : ℕ) (bs rest : List ℕ) → AllByRecursion Good ps → AllByRecursion (λ x. ends x ≡ false) (b ∷ bs) → token (b ∷ bs) ≡ None → Closed rest
     → words_in_text (flat_map piece_text ps ++ ((b ∷ bs) ++ rest)) ≡ Err (spot 1 1 (flat_map piece_text ps))

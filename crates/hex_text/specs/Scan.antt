@@ -2,7 +2,7 @@
 use Rattle.std.specs.Prelude.{◌≡◌, ℕ, ◌+◌, ◌-◌, ◌*◌, ◌/◌, ◌%◌, ◌^◌, ◌<◌, Bool, true, cond, ◌&&◌, ◌||◌, List, [], ◌∷◌, ◌++◌, take, is_ok, Some, None, Ok, Err, vec_items, Option, Result, Vec, ◌==◌, nat_le, nat_lt}
 use Rattle.std.specs.Option.{option_to_list}
 use Rattle.std.specs.declared.alloc.Global.{Global}
-use Rattle.std.specs.List.{flat_map, AllByRecursion as All}
+use Rattle.std.specs.List.{flat_map, AllByRecursion}
 use Rattle.hex_text.specs.declared.HexError.{HexError}
 use Rattle.hex_text.specs.declared.HexError.TheVariants.{NoMemory, Token}
 use Rattle.hex_text.specs.declared.State.{State}
@@ -108,4 +108,4 @@ hex_of ws = flat_map line_of ws
 
 -- words written as text are read back
 abbrev pub ReadBack : Type 0
-ReadBack = (ws : List ℕ) → All (λ w. w < 2 ^ 32) ws → words_in_text (hex_of ws) ≡ Ok ws
+ReadBack = (ws : List ℕ) → AllByRecursion (λ w. w < 2 ^ 32) ws → words_in_text (hex_of ws) ≡ Ok ws

@@ -8,7 +8,7 @@ use crate::claim::Claim;
 // The earliest cycle, not before `from`, from which on no claim on the resource has any of `length` cycles.
 // With length 0 that is `from` itself.
 pub fn gap<C: Claim>(claims: &[C], resource: u32, from: u32, length: u32) -> u32
-    ensures found { FirstFree (map claimed claims.now) resource from length result }
+    ensures found { FirstFree (map C.claimed claims.now) resource from length result }
     ensures within { result ≤ max from 536870911 }
 {
     let mut at = from;
@@ -23,8 +23,8 @@ pub fn gap<C: Claim>(claims: &[C], resource: u32, from: u32, length: u32) -> u32
 
 // One pass: `from`, moved past each claim on the resource that has one of the `length` cycles from there on.
 fn pushed<C: Claim>(claims: &[C], resource: u32, from: u32, length: u32) -> u32
-    ensures passed { Passed (map claimed claims.now) resource from length result }
-    ensures free { result ≡ from → Free (map claimed claims.now) resource from length }
+    ensures passed { Passed (map C.claimed claims.now) resource from length result }
+    ensures free { result ≡ from → Free (map C.claimed claims.now) resource from length }
     ensures within { result ≤ max from 536870911 }
 {
     let mut at = from;
@@ -36,7 +36,7 @@ fn pushed<C: Claim>(claims: &[C], resource: u32, from: u32, length: u32) -> u32
 
 // The end of the claim, where that is on the resource and has one of the `length` cycles from `at` on; else `at`.
 fn past<C: Claim>(claim: &C, resource: u32, at: u32, length: u32) -> u32
-    ensures { Past (claimed claim.now) resource length at result }
+    ensures { Past (C.claimed claim.now) resource length at result }
 {
     let first = claim.first();
     let end = first + claim.length();

@@ -14,7 +14,7 @@ struct Stretch {
 
 // How many cycles of the claim at `position`, not before `from`, no other claim on its resource has; 0 past the last.
 pub fn alone<C: Claim>(claims: &[C], position: usize, from: u32) -> u32
-    ensures { result ≡ alone_count (map claimed claims.now) position from }
+    ensures { result ≡ alone_count (map C.claimed claims.now) position from }
 {
     let Some(claim) = claims.get(position) else {
         return 0;
@@ -32,7 +32,7 @@ pub fn alone<C: Claim>(claims: &[C], position: usize, from: u32) -> u32
 
 // How many cycles from `start` on and before `end` no claim of either slice has on the resource.
 fn free_cycles<C: Claim>(before: &[C], after: &[C], resource: u32, start: u32, end: u32) -> u32
-    ensures { result ≡ counted (untaken (map claimed before.now ++ map claimed after.now) resource) start (end - start) }
+    ensures { result ≡ counted (untaken (map C.claimed before.now ++ map C.claimed after.now) resource) start (end - start) }
 {
     let mut at = start;
     let mut count = 0;
@@ -54,7 +54,7 @@ fn free_cycles<C: Claim>(before: &[C], after: &[C], resource: u32, start: u32, e
 fn next_stretch<C: Claim>(claims: &[C], resource: u32, at: u32, limit: u32) -> Stretch
     requires { at < limit }
     ensures ahead { at < result.end }
-    ensures steady { Steady (map claimed claims.now) resource at result.end result.taken }
+    ensures steady { Steady (map C.claimed claims.now) resource at result.end result.taken }
 {
     let mut all = Stretch {
         taken: false,
@@ -70,7 +70,7 @@ fn next_stretch<C: Claim>(claims: &[C], resource: u32, at: u32, limit: u32) -> S
 fn stretch_of<C: Claim>(claim: &C, resource: u32, at: u32, limit: u32) -> Stretch
     requires { at < limit }
     ensures ahead { at < result.end }
-    ensures steady { (c : ℕ) → at ≤ c → c < result.end → has (claimed claim.now) resource c ≡ result.taken }
+    ensures steady { (c : ℕ) → at ≤ c → c < result.end → has (C.claimed claim.now) resource c ≡ result.taken }
 {
     let first = claim.first();
     let end = first + claim.length();

@@ -3,7 +3,7 @@ use Rattle.std.proofs.Common.{◌≡◌, ℕ, ◌+◌, ◌*◌, ◌/◌, ◌%◌
 use Rattle.std.proofs.lemmas.Nat.{div-add-mod'}
 use Rattle.std.proofs.lemmas.List.{flat_map_more, append_assoc, append-nil}
 use Rattle.std.proofs.lemmas.Bool.Decides.{nat_tests}
-use Rattle.std.specs.List.{AllByRecursion as All}
+use Rattle.std.specs.List.{AllByRecursion}
 use Rattle.words.specs.Bytes.{bytes_of_word, bytes_of, words_by_four, words_in}
 
 -- the word of a word's bytes
@@ -18,7 +18,7 @@ word_again w h =
     rw (p, q, top) (omega (arith, div-add-mod' w 256, div-add-mod' x 256, div-add-mod' y 256))
 
 -- the words of the bytes of words
-pub words_again : (ws : List ℕ) → All (λ w. w < 2 ^ 32) ws → words_by_four (bytes_of ws) ≡ ws
+pub words_again : (ws : List ℕ) → AllByRecursion (λ w. w < 2 ^ 32) ws → words_by_four (bytes_of ws) ≡ ws
 words_again [] h = refl
 words_again (w ∷ ws) h = let e = word_again w h.0 in let r = words_again ws h.1 in cc
 

@@ -1,7 +1,7 @@
 -- What is taken off a row of words is what was written, and what is written can be taken.
 use Rattle.std.proofs.Common.{◌≡◌, ℕ, zero, suc, ◌+◌, ◌/◌, ◌%◌, ◌<◌, ◌≤◌, true, leb, List, [], ◌∷◌, ◌++◌, length, get_or, take, drop, Some, None, Ok, Err, Option, Result, sym, refl, ap, ◌∙◌, arith}
 use Rattle.std.specs.Option.{option_map}
-use Rattle.std.specs.List.{AllByRecursion as All}
+use Rattle.std.specs.List.{AllByRecursion}
 use Rattle.std.proofs.lemmas.Nat.{div-add-mod', mod_below, div-mul-add, mod-mul-add}
 use Rattle.std.proofs.lemmas.List.{length-append, length-take-le, take-append-drop, take_at, drop_at}
 use Rattle.std.proofs.lemmas.Bool.Decides.{nat_tests}
@@ -13,18 +13,18 @@ use Rattle.words.specs.Kinds.{code, kind_of, word, opening_of, one_of}
 use Rattle.words.specs.Records.{Said, machine, regions, task, channel, exec, transfer, end, opener, words_of, Small, Sayable, and_then, opens, width, width_by, plain, following, saying, saying_by, filled, record_at}
 
 -- ---- the plain words of a record
-pub plain_ok : (place : ℕ) (ws : List ℕ) → plain place ws ≡ Ok tt → All Small ws
+pub plain_ok : (place : ℕ) (ws : List ℕ) → plain place ws ≡ Ok tt → AllByRecursion Small ws
 plain_ok place [] h = tt
 plain_ok place (w ∷ ws) h = (grind (arith, nat_tests), plain_ok (place + 1) ws (grind (arith, nat_tests)))
 
-pub plain_small : (place : ℕ) (ws : List ℕ) → All Small ws → plain place ws ≡ Ok tt
+pub plain_small : (place : ℕ) (ws : List ℕ) → AllByRecursion Small ws → plain place ws ≡ Ok tt
 plain_small place [] h = refl
 plain_small place (w ∷ ws) h = let r = plain_small (place + 1) ws h.1 in let l = h.0 in grind (arith, nat_tests, r, l)
 
 pub record Follows (n : ℕ) (ws f rest : List ℕ) : Type 0 where
   pub long : length f ≡ n
   pub parts : ws ≡ f ++ rest
-  pub small : All Small f
+  pub small : AllByRecursion Small f
 
 pub following_ok : (n place : ℕ) (ws f rest : List ℕ) → following n place ws ≡ Ok (f, rest) → Follows n ws f rest
 following_ok n place ws f rest h =
@@ -38,7 +38,7 @@ following_ok n place ws f rest h =
       small = rw a (plain_ok place (take n ws) p);
     }
 
-pub following_written : (n place : ℕ) (f rest : List ℕ) → length f ≡ n → All Small f → following n place (f ++ rest) ≡ Ok (f, rest)
+pub following_written : (n place : ℕ) (f rest : List ℕ) → length f ≡ n → AllByRecursion Small f → following n place (f ++ rest) ≡ Ok (f, rest)
 following_written n place f rest l h =
     let t = take_at f rest n l in
     let d = drop_at f rest n l in
@@ -108,12 +108,12 @@ saying_opener Exec n place f = refl
 saying_opener Transfer n place f = refl
 saying_opener End n place f = refl
 
-field_small : (f : List ℕ) (k : ℕ) → All Small f → Small (get_or f k 0)
+field_small : (f : List ℕ) (k : ℕ) → AllByRecursion Small f → Small (get_or f k 0)
 field_small [] k h = omega arith
 field_small (x ∷ f) zero h = h.0
 field_small (x ∷ f) (suc k) h = field_small f k h.1
 
-pub saying_sayable : (k : Kind) (n place : ℕ) (f : List ℕ) → length f ≡ width_by k n → Small n → All Small f → Sayable place (saying_by k n place f)
+pub saying_sayable : (k : Kind) (n place : ℕ) (f : List ℕ) → length f ≡ width_by k n → Small n → AllByRecursion Small f → Sayable place (saying_by k n place f)
 saying_sayable Machine n place f h l s = (l, (field_small f 0 s, (field_small f 1 s, (field_small f 2 s, tt))), tt)
 saying_sayable Regions n place f h l s = (rw h l, s, refl)
 saying_sayable Task n place f h l s = (l, (field_small f 0 s, tt), tt)
@@ -164,7 +164,7 @@ pub taken_less : (kinds : List Kind) (place : ℕ) (ws rest : List ℕ) (x : Sai
 taken_less kinds place ws rest x h = let a = taken_shorter kinds place ws rest x h in omega arith
 
 -- ---- the other way
-written_by : (kinds : List Kind) (place : ℕ) (k : Kind) (n : ℕ) (f rest : List ℕ) → one_of kinds k ≡ true → Small n → length f ≡ width_by k n → All Small f → record_at kinds place ((word k n ∷ f) ++ rest) ≡ Ok (saying_by k n place f, rest)
+written_by : (kinds : List Kind) (place : ℕ) (k : Kind) (n : ℕ) (f rest : List ℕ) → one_of kinds k ≡ true → Small n → length f ≡ width_by k n → AllByRecursion Small f → record_at kinds place ((word k n ∷ f) ++ rest) ≡ Ok (saying_by k n place f, rest)
 written_by kinds place k n f rest a l h s =
     rw (opening_written k n l) (rw a (rw (following_written (width_by k n) (place + 1) f rest h s) refl))
 

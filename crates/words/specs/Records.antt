@@ -1,6 +1,6 @@
 -- A record is an opening word and the plain words that go with it.
 use Rattle.std.specs.Prelude.{◌≡◌, ℕ, ◌+◌, ◌<◌, cond, List, [], ◌∷◌, length, take, drop, Some, None, Ok, Err, Option, Result, nat_le, slice_index}
-use Rattle.std.specs.List.{AllByRecursion as All}
+use Rattle.std.specs.List.{AllByRecursion}
 use Rattle.words.specs.declared.fault.Fault.{Fault}
 use Rattle.words.specs.declared.fault.Fault.TheVariants.{Ended, Misplaced}
 use Rattle.words.specs.declared.kind.Kind.{Kind}
@@ -68,7 +68,7 @@ Placed at (end count) = Unit {0}
 
 -- words at this place can say it
 abbrev pub Sayable : ℕ → Said → Type 0
-Sayable at x = Small (number_of x) × All Small (fields_of x) × Placed at x
+Sayable at x = Small (number_of x) × AllByRecursion Small (fields_of x) × Placed at x
 
 -- the kinds that may open the record after it
 abbrev pub follows : Said → List Kind

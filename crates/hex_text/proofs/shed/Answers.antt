@@ -4,14 +4,14 @@ use Rattle.std.specs.Option.{option_to_list}
 use Rattle.hex_text.specs.Scan.{shed, word}
 use Rattle.hex_text.proofs.Scans.{shed_turn}
 use Rattle.hex_text.proofs.shed.Goals as goal
-use Rattle.hex_text.proofs.shed.Goals.{in-Some+in-ok-push, in-default}
+use Rattle.hex_text.proofs.shed.Goals.{in-Some+in_ok-push, in_default}
 
 pub loop-i-preserved : goal.loop-i-preserved
 loop-i-preserved c =
     let p : vec_items c.match-word.words ≡ vec_items c.loop-i.words ++ option_to_list (word c.step-state.result) =
     elim c.match-word.branch [
-      | in-Some+in-ok-push w ↦ (let q = w.in-ok-push.ensures.items in grind (arith, q))
-      | in-default w ↦ (let n = append-nil (vec_items c.loop-i.words) in grind (arith, n))
+      | in-Some+in_ok-push w ↦ (let q = w.in_ok-push.ensures.items in grind (arith, q))
+      | in_default w ↦ (let n = append-nil (vec_items c.loop-i.words) in grind (arith, n))
     ]
     in
     shed_turn c.args.text.now (vec_items c.loop-i.words) (vec_items c.match-word.words) c.loop-i.i c.loop-i.state c.step-state.result c.loop-i-test.true c.step-state.ensures p c.loop-i.invariant

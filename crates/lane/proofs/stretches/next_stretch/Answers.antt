@@ -8,7 +8,7 @@ loop-claim-preserved g c =
     let more = taken_more g.C.Claim.claimed c.args.claims.now c.loop-claim.claim-index c.claim-item.result c.loop-claim-test.true c.claim-item.is in (
       omega arith,
       λ k l h. more c.args.resource k
-          ∙ c.either-all.ensures.joins _ _ k h (λ b. c.loop-claim.invariant.1 k l b) (λ b. c.stretch-of.ensures.steady k l b),
+          ∙ c.either-all.ensures.joins _ _ k h (λ b. c.loop-claim.invariant.1 k l b) (λ b. c.stretch_of.ensures.steady k l b),
     )
 
 pub returns : goal.returns

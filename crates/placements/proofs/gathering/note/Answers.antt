@@ -8,7 +8,7 @@ use Rattle.placements.proofs.gathering.note.Goals as goal
 
 pub returns-in-Exec : goal.returns-in-Exec
 returns-in-Exec c =
-    let g = c.args.so-far.now in
+    let g = c.args.so_far.now in
     let seat = c.in-Exec.seat in
     let x = Some (record { start = c.in-Exec.start; core = seat / 8 % 8; region = seat % 8 }) in
     record {
@@ -20,7 +20,7 @@ returns-in-Exec c =
 
 pub returns-in-Transfer : goal.returns-in-Transfer
 returns-in-Transfer c =
-    let g = c.args.so-far.now in
+    let g = c.args.so_far.now in
     let side = c.in-Transfer.side in
     let x = Some c.in-Transfer.start in
     record {

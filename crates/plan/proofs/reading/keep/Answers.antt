@@ -2,10 +2,10 @@ use Rattle.std.proofs.Common.{◌≡◌, take, vec_items, rules}
 use Rattle.plan.proofs.Keeps.{valid_at}
 use Rattle.plan.proofs.reading.keep.Goals as goal
 
-pub invariant-of-result : goal.invariant-of-result
-invariant-of-result c =
+pub invariant_of-result : goal.invariant_of-result
+invariant_of-result c =
     let g = c.args.numbers.now in
-    let ts : vec_items c.in-ok-tasks.tasks ≡ take g.task_count g.tasks = search rules in
-    let cs : vec_items c.in-ok-channels.channels ≡ take g.channel_count g.channels = search rules in
-    let v = valid_at g.cores g.slot_time g.slot_load g.scratchpad _ _ _ _ _ _ c.in-ok-regions.ensures.items ts cs c.requires.0 in
+    let ts : vec_items c.in_ok-tasks.tasks ≡ take g.task_count g.tasks = search rules in
+    let cs : vec_items c.in_ok-channels.channels ≡ take g.channel_count g.channels = search rules in
+    let v = valid_at g.cores g.slot_time g.slot_load g.scratchpad _ _ _ _ _ _ c.in_ok-regions.ensures.items ts cs c.requires.0 in
     (v.cores, (v.slot_time, (v.slot_load, (v.scratchpad, (v.region_count, (v.regions, (v.add_up, (v.task_count, (v.tasks, (v.channel_count, (v.channels, tt)))))))))))

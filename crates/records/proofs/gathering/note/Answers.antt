@@ -8,7 +8,7 @@ use Rattle.records.proofs.gathering.note.Goals as goal
 
 pub returns-in-Task : goal.returns-in-Task
 returns-in-Task c =
-    let g = c.args.so-far.now in
+    let g = c.args.so_far.now in
     let lt : g.task_count < length g.tasks = search rules in
     let e = take_more_set g.tasks g.task_count (record { limit = c.in-Task.limit; local = c.in-Task.local }) lt in
     record {
@@ -20,7 +20,7 @@ returns-in-Task c =
 
 pub returns-in-Channel : goal.returns-in-Channel
 returns-in-Channel c =
-    let g = c.args.so-far.now in
+    let g = c.args.so_far.now in
     let lt : g.channel_count < length g.channels = search rules in
     let e = take_more_set g.channels g.channel_count (record { from = c.in-Channel.pair / 64; to = c.in-Channel.pair % 64; bytes = c.in-Channel.bytes }) lt in
     record {

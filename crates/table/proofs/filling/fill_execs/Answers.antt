@@ -10,7 +10,7 @@ loop-task-preserved c =
     let old = vec_items c.args.slots.now.execs in
     let now = vec_items c.loop-task.slots.execs in
     let long : length (sheet_of c.loop-task.slots).execs ≡ length old = length-map now (λ x. x.seat) ∙ sym (length-map now (λ x. x.length)) ∙ ap length c.loop-task.invariant.2 ∙ length-map old (λ x. x.length) in
-    (filled_more (sheet_of c.loop-task.slots).execs (sheet_of c.set-exec.new.self).execs c.args.seats.now i _ None (omega (arith, c.len-task-end.ensures, c.args.slots.now.execs.ok.0)) (omega (arith, c.len-task-end.ensures, c.args.slots.now.execs.ok.0, c.requires)) (ap (λ s. s.execs) c.set-exec.ensures.sheet) refl c.loop-task.invariant.0, ap (λ s. s.transfers) c.set-exec.ensures.sheet ∙ c.loop-task.invariant.1, c.set-exec.ensures.execs ∙ c.loop-task.invariant.2, c.set-exec.ensures.transfers ∙ c.loop-task.invariant.3)
+    (filled_more (sheet_of c.loop-task.slots).execs (sheet_of c.set_exec.new.self).execs c.args.seats.now i _ None (omega (arith, c.len-task-end.ensures, c.args.slots.now.execs.ok.0)) (omega (arith, c.len-task-end.ensures, c.args.slots.now.execs.ok.0, c.requires)) (ap (λ s. s.execs) c.set_exec.ensures.sheet) refl c.loop-task.invariant.0, ap (λ s. s.transfers) c.set_exec.ensures.sheet ∙ c.loop-task.invariant.1, c.set_exec.ensures.execs ∙ c.loop-task.invariant.2, c.set_exec.ensures.transfers ∙ c.loop-task.invariant.3)
 
 pub returns : goal.returns
 returns c =

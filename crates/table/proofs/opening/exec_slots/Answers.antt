@@ -12,7 +12,7 @@ loop-task-preserved c =
     let old = vec_items c.loop-task.slots in
     let new = vec_items c.push.new.self in
     let x : ExecSlot = record { length = (get_or ts i no_task).limit; seat = None } in
-    let pushed = c.in-ok-push.ensures.items in (
+    let pushed = c.in_ok-push.ensures.items in (
       pushed_field (λ z. z.length) old new x _ pushed c.loop-task.invariant.0 ∙ sym (map_more (λ t. t.limit) ts i no_task c.loop-task-test.true),
       pushed_field (λ z. z.seat) old new x _ pushed c.loop-task.invariant.1 ∙ replicate_more i None,
     )

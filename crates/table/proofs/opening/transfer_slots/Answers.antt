@@ -16,10 +16,10 @@ loop-value-preserved c =
     let v = c.loop-value.value in
     let old = vec_items c.loop-value.slots in
     let new = vec_items c.push.new.self in
-    let l = c.unwrap-or-length.result in
+    let l = c.unwrap_or-length.result in
     let x : TransferSlot = record { length = l; start = None } in
-    let pushed = c.in-ok-push.ensures.items in
-    let is : l ≡ length_of p (transfer v) = grind (arith, nat_tests, c.unwrap-or-length.ensures, c.transfer_length.ensures, c.channels.ensures, transfer_takes p v) in (
+    let pushed = c.in_ok-push.ensures.items in
+    let is : l ≡ length_of p (transfer v) = grind (arith, nat_tests, c.unwrap_or-length.ensures, c.transfer_length.ensures, c.channels.ensures, transfer_takes p v) in (
       pushed_field (λ z. z.length) old new x _ pushed c.loop-value.invariant.0 ∙ ap (λ n. map (λ u. length_of p (transfer u)) (range_with_len 0 v) ++ n ∷ []) is ∙ sym (map-range_with_len_more (λ u. length_of p (transfer u)) 0 v v (omega arith)),
       pushed_field (λ z. z.start) old new x _ pushed c.loop-value.invariant.1 ∙ replicate_more v None,
     )

@@ -15,9 +15,9 @@ pub returns-in-len1-up : goal.returns-in-len1-up
 returns-in-len1-up c =
     let ws = c.args.words.now in
     let w = c.first-item.result in
-    let r = c.command-on.result in
+    let r = c.command_on.result in
     let lt : 0 < length ws = search rules in
     let P : List ℕ → Type 0 = λ v. Asked v (take (length ws - 1) (drop 1 ws)) r in
-    let named = subst P c.as-str.ensures.value c.command-on.ensures in
+    let named = subst P c.as_str.ensures.value c.command_on.ensures in
     let Q : List (String Global) → Type 0 = λ v. Asked (string_bytes w) v r in
     given_parts ws w r lt c.first-item.is (subst Q (take_rest ws 1) named)

@@ -14,8 +14,8 @@ returns-then-value-transfers c =
     let t = c.args.table.now in
     clear_transfer_past (plan_in t) (sheet t) c.args.value (omega (arith, values_long t, ap length c.transfers.ensures))
 
-pub transfer-ready-requires : goal.transfer-ready-requires
-transfer-ready-requires c = omega (arith, values_long c.args.table.now, ap length c.transfers.ensures)
+pub transfer_ready-requires : goal.transfer_ready-requires
+transfer_ready-requires c = omega (arith, values_long c.args.table.now, ap length c.transfers.ensures)
 
 pub returns-in-Some : goal.returns-in-Some
 returns-in-Some c =

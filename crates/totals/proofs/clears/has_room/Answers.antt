@@ -1,6 +1,6 @@
 use Rattle.std.proofs.Common.{◌≡◌, leb, length, get_or, vec_items, unwrap_or, sym, ap, ◌∙◌, ap₂, arith}
 use Rattle.std.proofs.lemmas.Bool.{cond-true, lt-ltb}
-use Rattle.board.specs.Plans.{if_task, goal as needs}
+use Rattle.board.specs.Plans.{if_task, need as needs}
 use Rattle.board.specs.Totals.{has_room}
 use Rattle.plan.specs.Views.{view}
 use Rattle.table.specs.Tables.{plan_in}
@@ -19,7 +19,7 @@ returns c =
     let task = c.args.task in
     let same = c.regions.ensures ∙ ap (λ r. vec_items r.now.regions) c.plan-2.ensures in
     let h = seated_below t task c.in-Some.seat (sym c.in-Some.ensures) in
-    let n : c.unwrap-or-need.result ≡ needs p task =
-    c.unwrap-or-need.ensures
+    let n : c.unwrap_or-need.result ≡ needs p task =
+    c.unwrap_or-need.ensures
     ∙ ap (λ o. unwrap_or o 0) (c.need.ensures ∙ ap (λ r. if_task (view r.now) task (needs (view r.now) task)) c.plan.ensures ∙ cond-true _ _ _ (lt-ltb task (length p.tasks) h)) in
     ap₂ (λ m rs. leb m (get_or rs c.in-Some.seat.region 0)) n same ∙ ap (has_room p task) c.in-Some.ensures

@@ -14,7 +14,7 @@ loop-channel-preserved c k =
     let i = c.loop-channel.channel in
     let long = ap length (c.channels-channel-end.ensures ∙ ap (λ r. vec_items r.now.channels) c.plan.ensures) in
     let n = length (plan_in t).channels in
-    ap (λ b. b && list_all (awaits (plan_in t) (sheet t) c.args.task k) (range_with_len (i + 1) (n - (i + 1)))) (c.both-at.ensures k ∙ ap (λ o. ended_by k c.loop-channel.at && ended_by k o) c.read-end.ensures)
+    ap (λ b. b && list_all (awaits (plan_in t) (sheet t) c.args.task k) (range_with_len (i + 1) (n - (i + 1)))) (c.both-at.ensures k ∙ ap (λ o. ended_by k c.loop-channel.at && ended_by k o) c.read_end.ensures)
     ∙ sym (waiting_more (plan_in t) (sheet t) c.args.task k (ended_by k c.loop-channel.at) i (omega (arith, long)))
     ∙ c.loop-channel.invariant k
 

@@ -34,8 +34,8 @@ returns-then-index-tasks c =
     let long = exec_slot_length t xs c.execs.ensures i (get_or xs i d) h (get_or_default xs i d (get_or xs i d) h) in
     record {
       wanted = long ∙ ap (length_of p) (sym is);
-      clear = c.clear-exec.ensures ∙ ap (clear_of p (sheet t)) (sym is);
-      bound = small_entry p (sheet t) (valid t.plan.now) (exec i) _ _ below long c.clear-exec.ensures;
+      clear = c.clear_exec.ensures ∙ ap (clear_of p (sheet t)) (sym is);
+      bound = small_entry p (sheet t) (valid t.plan.now) (exec i) _ _ below long c.clear_exec.ensures;
     }
 
 pub returns-else-index-tasks : goal.returns-else-index-tasks
@@ -52,6 +52,6 @@ returns-else-index-tasks c =
     let long = transfer_slot_length t xs c.transfers.ensures (i - n) (get_or xs (i - n) d) h (get_or_default xs (i - n) d (get_or xs (i - n) d) h) in
     record {
       wanted = long ∙ ap (length_of p) (sym is);
-      clear = c.clear-transfer.ensures ∙ ap (clear_of p (sheet t)) (sym is);
-      bound = small_entry p (sheet t) (valid t.plan.now) (transfer (i - n)) _ _ (transfer_holds p (i - n) (omega (arith, values_long t, ap length c.transfers.ensures))) long c.clear-transfer.ensures;
+      clear = c.clear_transfer.ensures ∙ ap (clear_of p (sheet t)) (sym is);
+      bound = small_entry p (sheet t) (valid t.plan.now) (transfer (i - n)) _ _ (transfer_holds p (i - n) (omega (arith, values_long t, ap length c.transfers.ensures))) long c.clear_transfer.ensures;
     }

@@ -22,4 +22,4 @@ returns c =
     let below : i < length p.tasks = omega (arith, c.requires.within, length-map c.args.stays.now span_of, ap length c.requires.claims, stay_claims_length p (sheet t)) in
     let small = stay_small t i below in
     let most = clear_le (stay_claims p (sheet t)) i (λ k. has_room p i (seat_of (sheet t) i)) in
-    record { wanted = wants; clear = c.clear-among.ensures; bound = (omega (arith, wants), omega (arith, c.clear-among.ensures)) }
+    record { wanted = wants; clear = c.clear_among.ensures; bound = (omega (arith, wants), omega (arith, c.clear_among.ensures)) }

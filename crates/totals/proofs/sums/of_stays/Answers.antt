@@ -11,19 +11,19 @@ use Rattle.totals.specs.Spans.{span_of}
 use Rattle.totals.proofs.Summing.{sum_more}
 use Rattle.totals.proofs.sums.of_stays.Goals as goal
 
-pub overflow-add-wanted : goal.overflow-add-wanted
-overflow-add-wanted c =
+pub overflow_add-wanted : goal.overflow_add-wanted
+overflow_add-wanted c =
     let t = c.args.table.now in
     let p = plan_in t in
     let long = sym (length-map c.args.stays.now span_of) ∙ ap length c.requires ∙ stay_claims_length p (sheet t) in
-    omega (arith, long, c.loop-task.invariant.2, t.plan.now.task_count.1, c.of-stay-length.ensures.bound.0, c.from-wanted.ensures)
+    omega (arith, long, c.loop-task.invariant.2, t.plan.now.task_count.1, c.of_stay-length.ensures.bound.0, c.from-wanted.ensures)
 
-pub overflow-add-clear : goal.overflow-add-clear
-overflow-add-clear c =
+pub overflow_add-clear : goal.overflow_add-clear
+overflow_add-clear c =
     let t = c.args.table.now in
     let p = plan_in t in
     let long = sym (length-map c.args.stays.now span_of) ∙ ap length c.requires ∙ stay_claims_length p (sheet t) in
-    omega (arith, long, c.loop-task.invariant.3, t.plan.now.task_count.1, c.of-stay-length.ensures.bound.1, c.from-clear.ensures)
+    omega (arith, long, c.loop-task.invariant.3, t.plan.now.task_count.1, c.of_stay-length.ensures.bound.1, c.from-clear.ensures)
 
 pub loop-task-preserved : goal.loop-task-preserved
 loop-task-preserved c =
@@ -31,10 +31,10 @@ loop-task-preserved c =
     let p = plan_in t in
     let i = c.loop-task.task in
     let long = sym (length-map c.args.stays.now span_of) ∙ ap length c.requires in (
-      omega (arith, c.loop-task.invariant.0, sum_by_more (λ z. z.length) (stay_claims p (sheet t)) i no_claim (omega (arith, long)), c.of-stay-length.ensures.wanted, c.from-wanted.ensures),
-      omega (arith, c.loop-task.invariant.1, sum_more (clear_stay p (sheet t)) i, c.of-stay-length.ensures.clear, c.from-clear.ensures),
-      omega (arith, c.loop-task.invariant.2, c.of-stay-length.ensures.bound.0, c.from-wanted.ensures),
-      omega (arith, c.loop-task.invariant.3, c.of-stay-length.ensures.bound.1, c.from-clear.ensures),
+      omega (arith, c.loop-task.invariant.0, sum_by_more (λ z. z.length) (stay_claims p (sheet t)) i no_claim (omega (arith, long)), c.of_stay-length.ensures.wanted, c.from-wanted.ensures),
+      omega (arith, c.loop-task.invariant.1, sum_more (clear_stay p (sheet t)) i, c.of_stay-length.ensures.clear, c.from-clear.ensures),
+      omega (arith, c.loop-task.invariant.2, c.of_stay-length.ensures.bound.0, c.from-wanted.ensures),
+      omega (arith, c.loop-task.invariant.3, c.of_stay-length.ensures.bound.1, c.from-clear.ensures),
     )
 
 pub returns : goal.returns

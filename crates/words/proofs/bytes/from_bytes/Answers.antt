@@ -10,7 +10,7 @@ loop-left-preserved c =
     let left = c.loop-left.left.now in
     let t = turn c.args.bytes.now ws left (search rules) (search rules) (search rules) (search rules) (search rules) c.loop-left.invariant in
     let r = take_rest left 4 in
-    let p : vec_items c.push.new.self ≡ ws ++ (get_or left 0 0 * 16777216 + get_or left 1 0 * 65536 + get_or left 2 0 * 256 + get_or left 3 0) ∷ [] = let q = c.in-ok-push.ensures.items in cc in
+    let p : vec_items c.push.new.self ≡ ws ++ (get_or left 0 0 * 16777216 + get_or left 1 0 * 65536 + get_or left 2 0 * 256 + get_or left 3 0) ∷ [] = let q = c.in_ok-push.ensures.items in cc in
     rw (r, p) t
 
 pub returns : goal.returns

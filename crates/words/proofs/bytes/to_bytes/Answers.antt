@@ -11,12 +11,12 @@ loop-w-preserved c =
     let i = c.loop-w.w-index in
     let m = take_more ws i 0 c.loop-w-test.true in
     let b = bytes_more (take i ws) (get_or ws i 0) in
-    let q = c.in-ok-extend-from-slice.ensures.items in
+    let q = c.in_ok-extend_from_slice.ensures.items in
     cc
 
 pub returns : goal.returns
 returns c =
     let ws = c.args.words.now in
     let e = c.loop-w.invariant ∙ ap bytes_of (take_all c.loop-w.w-index ws c.loop-w-test.false) in
-    let all = words_again ws (All-from_get_or (λ w. w < 2 ^ 32) ws 0 (λ i _. let f = c.type-inv.words i in omega arith)) in
+    let all = words_again ws (All-from_get_or (λ w. w < 2 ^ 32) ws 0 (λ i _. let f = c.type_inv.words i in omega arith)) in
     (e, ap words_in e ∙ whole ws ∙ ap Ok all)

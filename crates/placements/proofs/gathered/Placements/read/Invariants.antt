@@ -7,8 +7,8 @@ use Rattle.placements.proofs.gathered.Placements.read.Given as goal
 
 abbrev pub invariant-records : goal.invariant-records
 invariant-records l =
-    Goes_on (timetable_rules (view l.plan)) l.words (loaded (view l.plan) l.so-far) l.kinds l.reader.place l.reader.rest.now
-    × Tables l.so-far
+    Goes_on (timetable_rules (view l.plan)) l.words (loaded (view l.plan) l.so_far) l.kinds l.reader.place l.reader.rest.now
+    × Tables l.so_far
 
 abbrev pub decreases-records : goal.decreases-records
 decreases-records l = length l.reader.rest.now

@@ -3,8 +3,8 @@ use Rattle.std.proofs.lemmas.Nat.{mul-le}
 use Rattle.board.proofs.Rounding.{rounds_up}
 use Rattle.plan.proofs.model.Plan.cycles.Goals as goal
 
-pub overflow-mul-result : goal.overflow-mul-result
-overflow-mul-result c =
+pub overflow_mul-result : goal.overflow_mul-result
+overflow_mul-result c =
     let p = c.args.self.now in
     let all = mul-le c.slots.result p.slot_time 4294967295 100 (omega (arith, c.slots.ensures.bound)) p.slot_time_fits.1 in
     omega (arith, all)

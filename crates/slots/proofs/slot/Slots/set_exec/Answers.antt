@@ -16,11 +16,11 @@ returns-in-Some c =
       transfers = refl;
     }
 
-pub returns-in-default : goal.returns-in-default
-returns-in-default c =
+pub returns-in_default : goal.returns-in_default
+returns-in_default c =
     let xs = vec_items c.args.self.now.execs in
     record {
-      sheet = ap (λ zs. record { execs = zs; transfers = map (λ z. z.start) (vec_items c.args.self.now.transfers) }) (field_set_past (λ z. z.seat) xs c.args.task c.args.seat c.in-default.ensures.item.3);
+      sheet = ap (λ zs. record { execs = zs; transfers = map (λ z. z.start) (vec_items c.args.self.now.transfers) }) (field_set_past (λ z. z.seat) xs c.args.task c.args.seat c.in_default.ensures.item.3);
       execs = refl;
       transfers = refl;
     }

@@ -16,11 +16,11 @@ returns-in-Some c =
       transfers = same_field (λ z. z.length) xs c.args.value x y found.3.0 found.1 refl;
     }
 
-pub returns-in-default : goal.returns-in-default
-returns-in-default c =
+pub returns-in_default : goal.returns-in_default
+returns-in_default c =
     let xs = vec_items c.args.self.now.transfers in
     record {
-      sheet = ap (λ zs. record { execs = map (λ z. z.seat) (vec_items c.args.self.now.execs); transfers = zs }) (field_set_past (λ z. z.start) xs c.args.value c.args.start c.in-default.ensures.item.3);
+      sheet = ap (λ zs. record { execs = map (λ z. z.seat) (vec_items c.args.self.now.execs); transfers = zs }) (field_set_past (λ z. z.start) xs c.args.value c.args.start c.in_default.ensures.item.3);
       execs = refl;
       transfers = refl;
     }

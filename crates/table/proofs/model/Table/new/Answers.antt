@@ -6,10 +6,10 @@ use Rattle.slots.specs.declared.slot.Slots.{Slots}
 use Rattle.slots.specs.Views.{sheet_of}
 use Rattle.table.proofs.model.Table.new.Goals as goal
 
-pub invariant-of-result : goal.invariant-of-result
-invariant-of-result c =
+pub invariant_of-result : goal.invariant_of-result
+invariant_of-result c =
     let p = view c.args.plan.now in
-    let z : Slots = record { execs = c.in-ok-execs.execs; transfers = c.in-ok-transfers.transfers } in
-    let is : sheet_of z ≡ empty p = ap₂ (λ xs ys. record { execs = xs; transfers = ys }) c.in-ok-execs.ensures.seats c.in-ok-transfers.ensures.starts in
+    let z : Slots = record { execs = c.in_ok-execs.execs; transfers = c.in_ok-transfers.transfers } in
+    let is : sheet_of z ≡ empty p = ap₂ (λ xs ys. record { execs = xs; transfers = ys }) c.in_ok-execs.ensures.seats c.in_ok-transfers.ensures.starts in
     let f = subst (Fits p) (sym is) (empty_fits p) in
-    (c.in-ok-execs.ensures.lengths, (c.in-ok-transfers.ensures.lengths, (f.seats, (f.ends, tt))))
+    (c.in_ok-execs.ensures.lengths, (c.in_ok-transfers.ensures.lengths, (f.seats, (f.ends, tt))))
