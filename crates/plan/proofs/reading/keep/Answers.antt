@@ -7,5 +7,17 @@ invariant_of-result c =
     let g = c.args.numbers.now in
     let ts : vec_items c.in_ok-tasks.tasks ≡ take g.task_count g.tasks = search rules in
     let cs : vec_items c.in_ok-channels.channels ≡ take g.channel_count g.channels = search rules in
-    let v = valid_at g.cores g.slot_time g.slot_load g.scratchpad _ _ _ _ _ _ c.in_ok-regions.ensures.items ts cs c.requires.0 in
-    (v.cores, (v.slot_time, (v.slot_load, (v.scratchpad, (v.region_count, (v.regions, (v.add_up, (v.task_count, (v.tasks, (v.channel_count, (v.channels, tt)))))))))))
+    let v = valid_at g.cores g.slot_time g.slot_load g.scratchpad _ _ _ _ _ _ c.in_ok-regions.ensures.items ts cs c.requires.valid in
+    record {
+      cores_fit = v.cores;
+      slot_time_fits = v.slot_time;
+      slot_load_fits = v.slot_load;
+      scratchpad_fits = v.scratchpad;
+      region_count = v.region_count;
+      regions_fit = v.regions;
+      regions_add_up = v.add_up;
+      task_count = v.task_count;
+      tasks_fit = v.tasks;
+      channel_count = v.channel_count;
+      channels_fit = v.channels;
+    }

@@ -15,7 +15,11 @@ check-requires c =
     let h = c.in_ok-found.ensures.0 in
     let t = taken_ok c.args.kinds.now r.place r.rest.now _ x h in
     let s = taken_shorter c.args.kinds.now r.place r.rest.now _ x h in
-    (omega (arith, r.counted, c.place-place.ensures, c.left-left.ensures), omega (arith, c.left-left.ensures, s), placed_at r.place c.place-place.result x c.place-place.ensures t.sayable.2)
+    record {
+      left_bound = omega (arith, r.counted, c.place-place.ensures, c.left-left.ensures);
+      found_len_bound = omega (arith, c.left-left.ensures, s);
+      placed = placed_at r.place c.place-place.result x c.place-place.ensures t.sayable.2;
+    }
 
 pub returns-in_err-found : goal.returns-in_err-found
 returns-in_err-found c =

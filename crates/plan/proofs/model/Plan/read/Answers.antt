@@ -12,7 +12,7 @@ returns-in_err-numbers c =
 pub keep-requires : goal.keep-requires
 keep-requires c =
     let h = c.in_ok-numbers.ensures in
-    ((read_is_written c.args.words.now (gathered c.in_ok-numbers.numbers) h.0).0, h.1)
+    record { valid = (read_is_written c.args.words.now (gathered c.in_ok-numbers.numbers) h.0).0; counted = h.1 }
 
 pub returns-in_err-keep : goal.returns-in_err-keep
 returns-in_err-keep c =
