@@ -30,7 +30,7 @@ fn nothing() -> Placements
 
 // One record more.
 fn note(so_far: &mut Placements, found: Record<'_>)
-    requires tables_2 { Tables so_far.old }
+    requires tables_before { Tables so_far.old }
     requires roomy { Roomy (said found) }
     ensures view { (p : PlanView) → loaded p so_far.new ≡ then (loaded p so_far.old) (said found.entry) }
     ensures tables { Tables so_far.new }

@@ -15,7 +15,7 @@ returns-in-Exec c =
       view = λ p.
           ap (λ xs. loaded_of (record { execs = xs; transfers = take (2 * length p.channels) g.transfers }) (seat / 64 + 1) g.next_value) (front_of_set (length p.tasks) g.execs (seat / 64) x)
           ∙ ap (λ f. then (loaded p g) (said f)) (sym c.in-Exec.is);
-      tables = (length-set g.execs (seat / 64) x ∙ c.requires.0.0, c.requires.0.1);
+      tables = (length-set g.execs (seat / 64) x ∙ c.requires.tables_before.0, c.requires.tables_before.1);
     }
 
 pub returns-in-Transfer : goal.returns-in-Transfer
@@ -27,5 +27,5 @@ returns-in-Transfer c =
       view = λ p.
           ap (λ xs. loaded_of (record { execs = take (length p.tasks) g.execs; transfers = xs }) g.next_task (side + 1)) (front_of_set (2 * length p.channels) g.transfers side x)
           ∙ ap (λ f. then (loaded p g) (said f)) (sym c.in-Transfer.is);
-      tables = (c.requires.0.0, length-set g.transfers side x ∙ c.requires.0.1);
+      tables = (c.requires.tables_before.0, length-set g.transfers side x ∙ c.requires.tables_before.1);
     }

@@ -36,7 +36,7 @@ pub note-requires : goal.note-requires
 note-requires c =
     let l = c.records in
     let p = view c.args.plan.now in
-    (l.invariant.1, next_roomy p l.kinds.now (loaded p l.so_far) l.reader.place l.reader.rest.now _ (said c.in_ok-found.found) c.in_ok-found.ensures.0)
+    record { tables_before = l.invariant.1; roomy = next_roomy p l.kinds.now (loaded p l.so_far) l.reader.place l.reader.rest.now _ (said c.in_ok-found.found) c.in_ok-found.ensures.0 }
 
 pub records-smaller : goal.records-smaller
 records-smaller c =
