@@ -45,8 +45,8 @@ impl Reach {
 
 // What is placed of a task, whose exec has this reach.
 fn reach_of(table: &Table<'_>, task: usize, exec: Reach) -> Reach
-    requires first_value { there exec.first ≡ start (sheet table.now) (exec_of task) }
-    requires end_value { there exec.end ≡ end (plan_in table.now) (sheet table.now) (exec_of task) }
+    requires begins { there exec.first ≡ start (sheet table.now) (exec_of task) }
+    requires ends { there exec.end ≡ end (plan_in table.now) (sheet table.now) (exec_of task) }
     ensures first { there result.first ≡ first_start (plan_in table.now) (sheet table.now) task }
     ensures end { there result.end ≡ last_end (plan_in table.now) (sheet table.now) task }
 {

@@ -10,7 +10,7 @@ abbrev empty_slot : TransferSlot
 empty_slot = record { length = 0; start = None }
 
 pub loop-i-init : goal.loop-i-init
-loop-i-init c = reaching_first (plan_in c.args.table.now) (sheet c.args.table.now) c.args.task c.args.exec.first c.args.exec.end c.requires.0 c.requires.1
+loop-i-init c = reaching_first (plan_in c.args.table.now) (sheet c.args.table.now) c.args.task c.args.exec.first c.args.exec.end c.requires.begins c.requires.ends
 
 pub bounds-slots-i : goal.bounds-slots-i
 bounds-slots-i c =

@@ -11,8 +11,8 @@ use Rattle.totals.proofs.Slots.{tasks_long, values_long, exec_slot_length, trans
 use Rattle.totals.proofs.Summing.{entries_long, entry_exec, entry_transfer, small_entry}
 use Rattle.totals.proofs.sums.of_entry.Goals as goal
 
-pub offset-bounds-transfers-value : goal.offset-bounds-transfers-value
-offset-bounds-transfers-value c =
+pub offset_bounds-transfers-value : goal.offset_bounds-transfers-value
+offset_bounds-transfers-value c =
     let t = c.args.table.now in
     omega (arith, c.requires, entries_long (plan_in t), tasks_long t, ap length c.execs-tasks.ensures, t.plan.now.channel_count)
 
