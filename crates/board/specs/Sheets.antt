@@ -1,5 +1,5 @@
 -- A sheet by its placements: where each entry of a plan starts, if it is placed.
-use Rattle.std.specs.Prelude.{◌≡◌, ℕ, ◌+◌, ◌*◌, ◌<◌, ◌≤◌, List, length, set, replicate, Some, None, Option, slice_index_or, slice_set}
+use Rattle.std.specs.Prelude.{◌≡◌, ℕ, ◌+◌, ◌*◌, ◌<◌, ◌≤◌, List, length, replicate, Some, None, Option, slice_index_or, slice_set}
 use Rattle.std.specs.Option.{option_map}
 use Rattle.board.specs.declared.Seat.{Seat}
 use Rattle.board.specs.Entries.{Entry, exec, write, read, length_of}

@@ -13,6 +13,7 @@ mod walk;
 
 use command::{Command, HELP, command_of};
 use report::{Failed, tell_plans};
+use std::process::ExitCode;
 use std::{env, io};
 
 // The words behind the program's name.
@@ -22,9 +23,9 @@ fn arguments(rt: &HostRuntime) -> io::Result<Vec<String>> {
     Ok(all.collect(rt.alloc())?)
 }
 
-// An Err ends the program with status 1. What went wrong is told before.
-fn main(rt: HostRuntime) -> Result<(), Failed> {
-    let words = match arguments(&rt) {
+// Does what the arguments ask. What went wrong is told before an Err.
+fn run(rt: &HostRuntime) -> Result<(), Failed> {
+    let words = match arguments(rt) {
         Ok(words) => words,
         Err(e) => {
             eprintln!(rt; "timetable: the command can't be read: {e}")?;
@@ -33,10 +34,18 @@ fn main(rt: HostRuntime) -> Result<(), Failed> {
     };
     match command_of(words.as_slice()) {
         Ok(Command::Help) => Ok(rt.print(HELP)?),
-        Ok(Command::Plan(files)) => tell_plans(&rt, files),
+        Ok(Command::Plan(files)) => tell_plans(rt, files),
         Err(wrong) => {
             eprint!(rt; "timetable: {wrong}\n\n{HELP}")?;
             Err(Failed)
         }
+    }
+}
+
+// Ends with status 1 where the run failed.
+fn main(rt: HostRuntime) -> ExitCode {
+    match run(&rt) {
+        Ok(()) => ExitCode::SUCCESS,
+        Err(Failed) => ExitCode::FAILURE,
     }
 }
