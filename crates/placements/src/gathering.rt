@@ -3,7 +3,7 @@ ghost use Rattle.std.specs.Prelude.{◌≡◌, Ok, Err, MatchResult};
 ghost use Rattle.words.specs.Seen.{said};
 ghost use Rattle.board.specs.Plans.{PlanView};
 ghost use Rattle.board.specs.Timetables.{then, timetable_rules, read_sheet};
-ghost use Rattle.records.specs.Gathering.{Goes};
+ghost use Rattle.records.specs.Gathering.{GoesBy};
 ghost use Rattle.plan.specs.Views.{view};
 ghost use Rattle.placements.specs.Gathering.{loaded, sheet_in, Tables, Few, Roomy};
 ghost use Rattle.placements.specs.Shown.{shown};
@@ -61,7 +61,7 @@ fn next<'a>(
     kinds: &[Kind],
     so_far: &Placements,
 ) -> Result<Record<'a>, Fault>
-    ensures { Goes (timetable_rules (view plan.now)) shown kinds.now (loaded (view plan.now) so_far.now) reader.old result reader.new }
+    ensures { GoesBy (timetable_rules (view plan.now)) shown kinds.now (loaded (view plan.now) so_far.now) reader.old result reader.new }
 {
     let (place, left) = (reader.place(), reader.left());
     let found = reader.record(kinds)?;

@@ -7,5 +7,7 @@ mod model;
 mod parts;
 mod reading;
 
+pub use board::{Channel, Task};
 pub use error::ReadError;
 pub use model::Plan;
+pub use records::Fault;

@@ -6,9 +6,12 @@ use Rattle.words.specs.declared.kind.Kind.{Kind}
 use Rattle.words.specs.declared.reader.Reader.{Reader}
 use Rattle.words.specs.declared.record.Record.{Record}
 use Rattle.words.specs.Seen.{said, counted}
+use Rattle.records.specs.declared.fault.Fault.{Fault}
 use Rattle.records.specs.declared.gathered.Gathered.{Gathered}
 use Rattle.board.specs.Files.{Rules, next}
 use Rattle.board.specs.Plans.{PlanView, plan_of}
+use Rattle.board.specs.Reading.{plan_rules}
+use Rattle.records.specs.Shown.{shown}
 
 abbrev pub gathered : Gathered → PlanView
 gathered g =
@@ -31,8 +34,14 @@ Roomy g (exec start seat) = Counted g
 Roomy g (transfer start side) = Counted g
 Roomy g (end count) = Counted g
 
--- the next record is taken and checked by rules, and the reader then stands behind it in the same file; `shown` tells a fault
-abbrev pub Goes : {S F : Type 0} → Rules S → (F → Refusal) → List Kind → S → Reader → Result Record F → Reader → Type 0
-Goes rules shown kinds s old (Ok x) new =
+-- the next record is taken and checked, and the reader then stands behind it in the same file
+abbrev pub Goes : List Kind → PlanView → Reader → Result Record Fault → Reader → Type 0
+Goes kinds p old (Ok x) new =
+    (next plan_rules kinds p old.place old.rest.now ≡ Ok (said x, new.rest.now)) × (counted new ≡ counted old)
+Goes kinds p old (Err f) new = next plan_rules kinds p old.place old.rest.now ≡ Err (shown f)
+
+-- the same by other rules; `tells` says what a fault is by number, layer and place
+abbrev pub GoesBy : {S F : Type 0} → Rules S → (F → Refusal) → List Kind → S → Reader → Result Record F → Reader → Type 0
+GoesBy rules tells kinds s old (Ok x) new =
     (next rules kinds s old.place old.rest.now ≡ Ok (said x, new.rest.now)) × (counted new ≡ counted old)
-Goes rules shown kinds s old (Err f) new = next rules kinds s old.place old.rest.now ≡ Err (shown f)
+GoesBy rules tells kinds s old (Err f) new = next rules kinds s old.place old.rest.now ≡ Err (tells f)

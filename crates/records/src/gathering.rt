@@ -72,7 +72,7 @@ fn next<'a>(
     so_far: &Gathered<'_>,
 ) -> Result<Record<'a>, Fault>
     requires { Counted so_far.now }
-    ensures { Goes plan_rules shown kinds.now (gathered so_far.now) reader.old result reader.new }
+    ensures { Goes kinds.now (gathered so_far.now) reader.old result reader.new }
 {
     let (place, left) = (reader.place(), reader.left());
     let found = reader.record(kinds)?;
