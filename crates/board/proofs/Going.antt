@@ -26,8 +26,8 @@ not_end (r.End n) h = absurd (h n refl)
 
 module _ {S : Type 0} (r : Rules S) where
   -- the words from here on decide, behind what was read
-  abbrev pub Goes_on : List ℕ → S → List Kind → ℕ → List ℕ → Type 0
-  Goes_on ws s kinds place rest = reads r ws ≡ walk r 0 kinds s place rest
+  abbrev pub GoesOn : List ℕ → S → List Kind → ℕ → List ℕ → Type 0
+  GoesOn ws s kinds place rest = reads r ws ≡ walk r 0 kinds s place rest
 
   -- the next record, by what was taken
   abbrev Checking : S → ℕ → List ℕ → Said × List ℕ → Result (Said × List ℕ) Refusal
@@ -44,21 +44,21 @@ module _ {S : Type 0} (r : Rules S) where
       ap (λ y. and_then (told y) (Checking s place rest)) t ∙ ap (λ y. and_then y (λ _. Ok (x, after))) e
 
   -- the whole file, before anything was read
-  pub going_first : (ws rest : List ℕ) (s : S) (place : ℕ) → s ≡ r.none → place ≡ 0 → rest ≡ ws → Goes_on ws s r.first place rest
+  pub going_first : (ws rest : List ℕ) (s : S) (place : ℕ) → s ≡ r.none → place ≡ 0 → rest ≡ ws → GoesOn ws s r.first place rest
   going_first ws rest s place a b e = rw (a, b, e) refl
 
   -- ---- what comes of the next record
   module _ (ws rest : List ℕ) (s : S) (kinds : List Kind) (place : ℕ) where
-    pub going_more : (after : List ℕ) (x : Said) (s' : S) (kinds' : List Kind) (place' : ℕ) → Goes_on ws s kinds place rest → next r kinds s place rest ≡ Ok (x, after) → is_end x ≡ false → s' ≡ r.then s x → kinds' ≡ follows x → place' + length after ≡ place + length rest → Goes_on ws s' kinds' place' after
+    pub going_more : (after : List ℕ) (x : Said) (s' : S) (kinds' : List Kind) (place' : ℕ) → GoesOn ws s kinds place rest → next r kinds s place rest ≡ Ok (x, after) → is_end x ≡ false → s' ≡ r.then s x → kinds' ≡ follows x → place' + length after ≡ place + length rest → GoesOn ws s' kinds' place' after
     going_more after x s' kinds' place' i n e v k q =
         let t = taken_shorter kinds place rest after x (next_ok r kinds s place rest x after n).taken in
         let p : place' ≡ place + length (words_of x) = omega arith in
         rw (v, k, p) (i ∙ walk_more r kinds s place rest x after n e)
 
-    pub going_end : (after : List ℕ) (x : Said) → Goes_on ws s kinds place rest → next r kinds s place rest ≡ Ok (x, after) → is_end x ≡ true → reads r ws ≡ Ok s
+    pub going_end : (after : List ℕ) (x : Said) → GoesOn ws s kinds place rest → next r kinds s place rest ≡ Ok (x, after) → is_end x ≡ true → reads r ws ≡ Ok s
     going_end after x i n e = i ∙ walk_end r kinds s place rest x after n e
 
-    pub going_fault : (f : Refusal) → Goes_on ws s kinds place rest → next r kinds s place rest ≡ Err f → reads r ws ≡ Err f
+    pub going_fault : (f : Refusal) → GoesOn ws s kinds place rest → next r kinds s place rest ≡ Err f → reads r ws ≡ Err f
     going_fault f i n = i ∙ walk_fault r kinds s place rest f n
 
   pub going_less : (rest : List ℕ) (s : S) (kinds : List Kind) (place : ℕ) (after : List ℕ) (x : Said) → next r kinds s place rest ≡ Ok (x, after) → length after < length rest

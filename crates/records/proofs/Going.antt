@@ -6,13 +6,13 @@ use Rattle.words.specs.declared.kind.Kind.{Kind}
 use Rattle.words.specs.Records.{Said, machine, regions, task, channel, exec, transfer, end}
 use Rattle.board.specs.Files.{◌also◌, closing, next}
 use Rattle.board.specs.Reading.{why, stands, plan_rules}
-use Rattle.board.proofs.Going.{Goes_on}
+use Rattle.board.proofs.Going.{GoesOn}
 use Rattle.board.proofs.Walking.{next_ok}
 use Rattle.records.specs.declared.gathered.Gathered.{Gathered}
 use Rattle.records.specs.Gathering.{gathered, Counted, Roomy}
 
 pub record Going (ws : List ℕ) (g : Gathered) (kinds : List Kind) (place : ℕ) (rest : List ℕ) : Type 0 where
-  pub goes_on : Goes_on plan_rules ws (gathered g) kinds place rest
+  pub goes_on : GoesOn plan_rules ws (gathered g) kinds place rest
   pub counted : Counted g
 
 -- what the code asks of a record is what the rules ask
