@@ -1,9 +1,10 @@
 #!/usr/bin/env python3
 """Respells this repository's own definitions and lemmas: words in snake case, types in camel case.
 
-usage: tools/respell.py [FOLDER]    rewrites crates/ (code, not comments or strings) and quoted names in *.md below FOLDER (this folder)
+usage: tools/respell.py [FOLDER]    rewrites below FOLDER (this folder) the code of *.rt, *.antt and *.edit, but no strings,
+and in comments and in *.md the names in back quotes
 
-Run it once, after the kit's own script. A second run changes nothing.
+Run it once, after the kit's own script. A second run changes no code; in *.md it would turn old names that are told as such.
 """
 
 import os

@@ -30,7 +30,13 @@ enum Outcome {
 
 // Tells the files one by one.
 pub(crate) fn tell_plans(rt: &HostRuntime, files: &[String]) -> Result<(), Failed> {
-    let mut out = BufWriter::new(rt.alloc(), rt.stdout())?;
+    let mut out = match BufWriter::new(rt.alloc(), rt.stdout()) {
+        Ok(out) => out,
+        Err(e) => {
+            eprintln!(rt; "timetable: nothing can be told: {e}")?;
+            return Err(Failed);
+        }
+    };
     let mut answer = Ok(());
     for (i, file) in files.iter().enumerate() {
         if i > 0 {
