@@ -28,7 +28,12 @@ invariant_of-self c =
     let t = c.args.self.now in
     let p = plan_in t in
     let f = subst (Fits p) (sym (filled c.args.self.now c.fill_execs.new.slots c.fill_transfers.new.slots c.in_ok-found.found c.fill_execs.ensures.execs c.fill_execs.ensures.transfer_lengths c.fill_transfers.ensures.execs c.fill_transfers.ensures.transfers)) (loaded_fits p c.args.words.now (sheet_in p c.in_ok-found.found) c.in_ok-found.ensures.0) in
-    record { exec_lengths = c.fill_transfers.ensures.exec_lengths ∙ c.fill_execs.ensures.exec_lengths ∙ t.exec_lengths; transfer_lengths = c.fill_transfers.ensures.transfer_lengths ∙ c.fill_execs.ensures.transfer_lengths ∙ t.transfer_lengths; seats_fit = f.seats; ends_fit = f.ends }
+    record {
+      exec_lengths = c.fill_transfers.ensures.exec_lengths ∙ c.fill_execs.ensures.exec_lengths ∙ t.exec_lengths;
+      transfer_lengths = c.fill_transfers.ensures.transfer_lengths ∙ c.fill_execs.ensures.transfer_lengths ∙ t.transfer_lengths;
+      seats_fit = f.seats;
+      ends_fit = f.ends;
+    }
 
 pub returns : goal.returns
 returns c =

@@ -12,4 +12,9 @@ invariant_of-result c =
     let z : Slots = record { execs = c.in_ok-execs.execs; transfers = c.in_ok-transfers.transfers } in
     let is : sheet_of z ≡ empty p = ap₂ (λ xs ys. record { execs = xs; transfers = ys }) c.in_ok-execs.ensures.seats c.in_ok-transfers.ensures.starts in
     let f = subst (Fits p) (sym is) (empty_fits p) in
-    record { exec_lengths = c.in_ok-execs.ensures.lengths; transfer_lengths = c.in_ok-transfers.ensures.lengths; seats_fit = f.seats; ends_fit = f.ends }
+    record {
+      exec_lengths = c.in_ok-execs.ensures.lengths;
+      transfer_lengths = c.in_ok-transfers.ensures.lengths;
+      seats_fit = f.seats;
+      ends_fit = f.ends;
+    }
