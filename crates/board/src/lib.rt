@@ -3,14 +3,14 @@
 #![tactic(auto)]
 
 // A task runs for at most `limit` cycles and keeps `local` bytes of its own.
-#[derive(Clone, Copy)]
+#[derive(Clone, Copy, Debug, Default, PartialEq, Eq)]
 pub struct Task {
     pub limit: u32,
     pub local: u32,
 }
 
 // A channel carries `bytes` from its producer to its consumer, each by its task number.
-#[derive(Clone, Copy)]
+#[derive(Clone, Copy, Debug, Default, PartialEq, Eq)]
 pub struct Channel {
     pub from: usize,
     pub to: usize,
@@ -18,7 +18,7 @@ pub struct Channel {
 }
 
 // Where and when a task runs: its exec begins at cycle `start` on a core, in a region of that core's scratchpad.
-#[derive(Clone, Copy)]
+#[derive(Clone, Copy, Debug, PartialEq, Eq)]
 pub struct Seat {
     pub start: u32,
     pub core: u32,
@@ -27,7 +27,7 @@ pub struct Seat {
 
 // An entry as a call names it: the exec of a task with the core and the region of its seat, or the write or the read
 // of a channel.
-#[derive(Clone, Copy)]
+#[derive(Clone, Copy, Debug, PartialEq, Eq)]
 pub enum Entry {
     Exec { task: usize, core: u32, region: u32 },
     Write { channel: usize },
