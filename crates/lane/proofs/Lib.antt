@@ -1,3 +1,4 @@
 pub mod Takes
 pub mod Counts
 pub mod Shares
+pub mod Joins

@@ -4,7 +4,7 @@ use Rattle.std.proofs.lemmas.List.{map_more, map-append}
 use Rattle.std.proofs.lemmas.Bool.{or_left, or_right, or_from, both_ways, cases_lt}
 use Rattle.std.proofs.lemmas.Bool.Decides.{nat_tests}
 use Rattle.lane.specs.Claims.{Claimed, has, taken, Free, Passed}
-use Rattle.lane.specs.Stretches.{Meets, Past}
+use Rattle.lane.specs.Gaps.{Meets, Past}
 
 or_assoc : (a b c : Bool) → ((a || b) || c) ≡ (a || (b || c))
 or_assoc true b c = refl

@@ -1,15 +1,20 @@
 -- What one pass over a list of claims tells.
-use Rattle.std.specs.Prelude.{◌≡◌, ℕ, ◌+◌, ◌<◌, ◌≤◌, min, max, Bool, ◌⊎◌, List}
+use Rattle.std.specs.Prelude.{◌≡◌, ℕ, ◌<◌, ◌≤◌, Bool, true, false, List}
 use Rattle.lane.specs.Claims.{Claimed, taken}
+use Rattle.lane.specs.declared.window.Stretch.{Stretch}
+use Rattle.lane.specs.declared.window.Stretch.TheVariants.{Taken, Free}
 
--- whether the claims have a cycle of the resource is the same for each from `at` on and before `end`
-abbrev pub Steady : List Claimed → ℕ → ℕ → ℕ → Bool → Type 0
-Steady cs r at end b = (k : ℕ) → at ≤ k → k < end → taken cs r k ≡ b
+-- the cycle that a stretch ends before
+abbrev pub stop : Stretch → ℕ
+stop (Taken e) = e
+stop (Free e) = e
 
--- the claim has one of the n cycles of r from `at` on
-abbrev pub Meets : Claimed → ℕ → ℕ → ℕ → Type 0
-Meets c r n at = (c.resource ≡ r) × (max at c.first < min (at + n) (c.first + c.length))
+-- whether its cycles are taken
+abbrev pub is_taken : Stretch → Bool
+is_taken (Taken e) = true
+is_taken (Free e) = false
 
--- b is the end of the claim where it meets the n cycles from a on, and a where it does not
-abbrev pub Past : Claimed → ℕ → ℕ → ℕ → ℕ → Type 0
-Past c r n a b = (Meets c r n a × (b ≡ c.first + c.length)) ⊎ ((Meets c r n a → ⊥) × (b ≡ a))
+-- the stretch goes past `at`, and tells of each cycle of the resource from there on whether the claims have it
+pub record Does (cs : List Claimed) (r at : ℕ) (x : Stretch) : Type 0 where
+  pub ahead : at < stop x
+  pub steady : (k : ℕ) → at ≤ k → k < stop x → taken cs r k ≡ is_taken x

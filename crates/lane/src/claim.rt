@@ -20,6 +20,13 @@ pub trait Claim {
     ghost ends: { (x : Self) → (claimed x).first + (claimed x).length ≤ 536870911 };
 }
 
+// The cycle that a claim ends before.
+pub(crate) fn end<C: Claim>(claim: &C) -> u32
+    ensures { result ≡ (C.claimed claim.now).first + (C.claimed claim.now).length }
+{
+    claim.first() + claim.length()
+}
+
 // The cycle by which every claim has ended.
 const LAST: u32 = 536_870_911;
 
@@ -29,6 +36,15 @@ pub struct Span {
     pub resource: u32,
     pub first: u32,
     pub length: u32,
+}
+
+impl Span {
+    // No cycle.
+    pub const NOTHING: Span = Span {
+        resource: 0,
+        first: 0,
+        length: 0,
+    };
 }
 
 impl Claim for Span {
@@ -45,6 +61,6 @@ impl Claim for Span {
     }
 
     fn length(&self) -> u32 {
-        self.length.min(LAST - self.first.min(LAST))
+        self.length.min(LAST - self.first())
     }
 }

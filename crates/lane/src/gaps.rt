@@ -1,9 +1,9 @@
 // The earliest gap of a resource.
 ghost use Rattle.std.specs.Prelude.{◌≡◌, ◌≤◌, max, map};
 ghost use Rattle.lane.specs.Claims.{Free, Passed, FirstFree};
-ghost use Rattle.lane.specs.Stretches.{Past};
+ghost use Rattle.lane.specs.Gaps.{Past};
 
-use crate::claim::Claim;
+use crate::claim::{Claim, end};
 
 // The earliest cycle, not before `from`, from which on no claim on the resource has any of `length` cycles.
 // With length 0 that is `from` itself.
@@ -11,9 +11,10 @@ pub fn gap<C: Claim>(claims: &[C], resource: u32, from: u32, length: u32) -> u32
     ensures found { FirstFree (map C.claimed claims.now) resource from length result }
     ensures within { result ≤ max from 536870911 }
 {
+    let row = Row { resource, length };
     let mut at = from;
     loop {
-        let next = pushed(claims, resource, at, length);
+        let next = row.pushed(claims, at);
         if next == at {
             return at;
         }
@@ -21,29 +22,38 @@ pub fn gap<C: Claim>(claims: &[C], resource: u32, from: u32, length: u32) -> u32
     }
 }
 
-// One pass: `from`, moved past each claim on the resource that has one of the `length` cycles from there on.
-fn pushed<C: Claim>(claims: &[C], resource: u32, from: u32, length: u32) -> u32
-    ensures passed { Passed (map C.claimed claims.now) resource from length result }
-    ensures free { result ≡ from → Free (map C.claimed claims.now) resource from length }
-    ensures within { result ≤ max from 536870911 }
-{
-    let mut at = from;
-    for claim in claims {
-        at = past(claim, resource, at, length);
-    }
-    at
+// So many cycles of a resource in a row.
+#[derive(Clone, Copy)]
+struct Row {
+    resource: u32,
+    length: u32,
 }
 
-// The end of the claim, where that is on the resource and has one of the `length` cycles from `at` on; else `at`.
-fn past<C: Claim>(claim: &C, resource: u32, at: u32, length: u32) -> u32
-    ensures { Past (C.claimed claim.now) resource length at result }
-{
-    let first = claim.first();
-    let end = first + claim.length();
-    let stop = u64::from(at) + u64::from(length);
-    if claim.resource() == resource && u64::from(at.max(first)) < stop.min(end.into()) {
-        end
-    } else {
+impl Row {
+    // One pass: `from`, moved past each claim that has one of the row's cycles from there on.
+    fn pushed<C: Claim>(self, claims: &[C], from: u32) -> u32
+        ensures passed { Passed (map C.claimed claims.now) self.resource from self.length result }
+        ensures free { result ≡ from → Free (map C.claimed claims.now) self.resource from self.length }
+        ensures within { result ≤ max from 536870911 }
+    {
+        let mut at = from;
+        for claim in claims {
+            at = self.past(claim, at);
+        }
         at
+    }
+
+    // The end of the claim, where it has one of the row's cycles from `at` on; else `at`.
+    fn past<C: Claim>(self, claim: &C, at: u32) -> u32
+        ensures { Past (C.claimed claim.now) self.resource self.length at result }
+    {
+        let (first, end) = (claim.first(), end(claim));
+        // A row that passes the largest number has passed the end of every claim.
+        let stop = at.saturating_add(self.length);
+        if claim.resource() == self.resource && at.max(first) < stop.min(end) {
+            end
+        } else {
+            at
+        }
     }
 }

@@ -4,6 +4,7 @@
 mod claim;
 mod gaps;
 mod stretches;
+mod window;
 
 pub use claim::{Claim, Span};
 pub use gaps::gap;

@@ -1,16 +1,10 @@
 // The cycles that one claim has alone.
-ghost use Rattle.std.specs.Prelude.{◌≡◌, ℕ, ◌-◌, ◌<◌, ◌≤◌, min, Bool, ◌||◌, ◌++◌, map};
-ghost use Rattle.lane.specs.Claims.{alone_count, counted, has, untaken};
-ghost use Rattle.lane.specs.Stretches.{Steady};
+ghost use Rattle.std.specs.Prelude.{◌≡◌, ℕ, ◌-◌, ◌<◌, List, [], ◌∷◌, ◌++◌, map};
+ghost use Rattle.lane.specs.Claims.{Claimed, alone_count, counted, untaken};
+ghost use Rattle.lane.specs.Stretches.{Does};
 
-use crate::claim::Claim;
-
-// The cycles from some cycle on and before `end`: some claim has each of them, or no claim has any.
-#[derive(Clone, Copy)]
-struct Stretch {
-    taken: bool,
-    end: u32,
-}
+use crate::claim::{Claim, end};
+use crate::window::{Stretch, Window};
 
 // How many cycles of the claim at `position`, not before `from`, no other claim on its resource has; 0 past the last.
 pub fn alone<C: Claim>(claims: &[C], position: usize, from: u32) -> u32
@@ -19,14 +13,12 @@ pub fn alone<C: Claim>(claims: &[C], position: usize, from: u32) -> u32
     let Some(claim) = claims.get(position) else {
         return 0;
     };
-    let start = claim.first().max(from);
-    let end = claim.first() + claim.length();
     free_cycles(
-        &claims[0..position],
+        &claims[..position],
         &claims[position + 1..],
         claim.resource(),
-        start,
-        end,
+        claim.first().max(from),
+        end(claim),
     )
 }
 
@@ -37,76 +29,59 @@ fn free_cycles<C: Claim>(before: &[C], after: &[C], resource: u32, start: u32, e
     let mut at = start;
     let mut count = 0;
     while at < end {
-        let others = either(
-            next_stretch(before, resource, at, end),
-            next_stretch(after, resource, at, end),
-        );
-        let stop = others.end.min(end);
-        if !others.taken {
-            count += stop - at;
-        }
+        let window = Window {
+            resource,
+            from: at,
+            end,
+        };
+        let others = next_of_both(before, after, window);
+        let stop = others.end().min(end);
+        count += others.free(stop - at);
         at = stop;
     }
     count
 }
 
-// What the claims do to the cycles of the resource from `at` on, in one pass.
-fn next_stretch<C: Claim>(claims: &[C], resource: u32, at: u32, limit: u32) -> Stretch
-    requires { at < limit }
-    ensures ahead { at < result.end }
-    ensures steady { Steady (map C.claimed claims.now) resource at result.end result.taken }
+// What the claims of both slices do to the cycles of the window.
+fn next_of_both<C: Claim>(before: &[C], after: &[C], window: Window) -> Stretch
+    ensures { Does (map C.claimed before.now ++ map C.claimed after.now) window.resource window.from result }
 {
-    let mut all = Stretch {
-        taken: false,
-        end: limit,
-    };
+    either(next_stretch(before, window), next_stretch(after, window))
+}
+
+// What the claims do to the cycles of the window, in one pass.
+fn next_stretch<C: Claim>(claims: &[C], window: Window) -> Stretch
+    ensures { Does (map C.claimed claims.now) window.resource window.from result }
+{
+    let mut all = Stretch::Free(window.end);
     for claim in claims {
-        all = either(all, stretch_of(claim, resource, at, limit));
+        all = either(all, stretch_of(claim, window));
     }
     all
 }
 
-// What one claim does to the cycles of the resource from `at` on.
-fn stretch_of<C: Claim>(claim: &C, resource: u32, at: u32, limit: u32) -> Stretch
-    requires { at < limit }
-    ensures ahead { at < result.end }
-    ensures steady { (c : ℕ) → at ≤ c → c < result.end → has (C.claimed claim.now) resource c ≡ result.taken }
+// What one claim does to the cycles of the window.
+fn stretch_of<C: Claim>(claim: &C, window: Window) -> Stretch
+    ensures { Does (C.claimed claim.now ∷ []) window.resource window.from result }
 {
-    let first = claim.first();
-    let end = first + claim.length();
-    if claim.resource() != resource || end <= at || first == end {
-        Stretch {
-            taken: false,
-            end: limit,
-        }
-    } else if first <= at {
-        Stretch { taken: true, end }
+    let (first, end) = (claim.first(), end(claim));
+    if claim.resource() != window.resource || end <= window.from || first == end {
+        Stretch::Free(window.end)
+    } else if first <= window.from {
+        Stretch::Taken(end)
     } else {
-        Stretch {
-            taken: false,
-            end: first,
-        }
+        Stretch::Free(first)
     }
 }
 
 // What the claims of both do.
 fn either(a: Stretch, b: Stretch) -> Stretch
-    ensures ends { min a.end b.end ≤ result.end }
-    ensures joins { (x y : Bool) (c : ℕ) → c < result.end → (c < a.end → x ≡ a.taken) → (c < b.end → y ≡ b.taken) → (x || y) ≡ result.taken }
+    ensures { (ss ts : List Claimed) (r at : ℕ) → Does ss r at a → Does ts r at b → Does (ss ++ ts) r at result }
 {
-    if a.taken && b.taken {
-        Stretch {
-            taken: true,
-            end: a.end.max(b.end),
-        }
-    } else if a.taken {
-        a
-    } else if b.taken {
-        b
-    } else {
-        Stretch {
-            taken: false,
-            end: a.end.min(b.end),
-        }
+    match (a, b) {
+        (Stretch::Taken(x), Stretch::Taken(y)) => Stretch::Taken(x.max(y)),
+        (Stretch::Free(x), Stretch::Free(y)) => Stretch::Free(x.min(y)),
+        (Stretch::Taken(_), Stretch::Free(_)) => a,
+        (Stretch::Free(_), Stretch::Taken(_)) => b,
     }
 }

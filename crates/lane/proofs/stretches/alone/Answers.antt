@@ -14,4 +14,4 @@ returns g c =
     let found = c.in-Some.ensures.lookup in
     c.free_cycles.ensures
     ∙ alone_between g.C.Claim.claimed c.args.claims.now c.args.position c.args.from c.in-Some.claim.now found.3.0 found.1
-    _ _ _ c.resource.ensures (omega arith) (omega arith)
+    _ _ _ c.resource.ensures (omega arith) c.end.ensures
