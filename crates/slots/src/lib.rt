@@ -2,6 +2,8 @@
 #![tactic(auto)]
 
 mod claims;
+mod place;
 mod slot;
 
-pub use slot::{ExecSlot, Slots, TransferSlot};
+pub use place::Place;
+pub use slot::{ExecSlot, Slot, Slots, TransferSlot};

@@ -1,23 +1,22 @@
 // The slots of a sheet, plain tables.
-ghost use Rattle.std.specs.Prelude.{◌≡◌};
+ghost use Rattle.std.specs.Prelude.{◌≡◌, slice_set};
 ghost use Rattle.board.specs.Sheets.{with_exec, with_transfer};
-ghost use Rattle.slots.specs.Views.{sheet_of, exec_lengths, transfer_lengths};
+ghost use Rattle.slots.specs.Views.{places, lengths, sheet_of, exec_lengths, transfer_lengths};
 
 use board::Seat;
 
-// The slot of an exec: its length, and its seat where it is placed.
+// The slot of an entry: its length, and its place where it is placed.
 #[derive(Clone, Copy)]
-pub struct ExecSlot {
+pub struct Slot<P> {
     pub length: u32,
-    pub seat: Option<Seat>,
+    pub place: Option<P>,
 }
 
-// The slot of a transfer: its length, and its start where it is placed.
-#[derive(Clone, Copy)]
-pub struct TransferSlot {
-    pub length: u32,
-    pub start: Option<u32>,
-}
+// An exec is placed by its seat.
+pub type ExecSlot = Slot<Seat>;
+
+// A transfer is placed by its start.
+pub type TransferSlot = Slot<u32>;
 
 // The slots of execs by task, those of transfers by 2 times the channel, plus 1 for the read.
 #[derive(Drop)]
@@ -33,9 +32,7 @@ impl Slots {
         ensures execs { exec_lengths self.new ≡ exec_lengths self.old }
         ensures transfers { transfer_lengths self.new ≡ transfer_lengths self.old }
     {
-        if let Some(slot) = self.execs.get_mut(task) {
-            slot.seat = seat;
-        }
+        set(&mut self.execs, task, seat);
     }
 
     // Starts one transfer, or empties its slot. There is nothing to do past the last value.
@@ -44,8 +41,16 @@ impl Slots {
         ensures execs { exec_lengths self.new ≡ exec_lengths self.old }
         ensures transfers { transfer_lengths self.new ≡ transfer_lengths self.old }
     {
-        if let Some(slot) = self.transfers.get_mut(value) {
-            slot.start = start;
-        }
+        set(&mut self.transfers, value, start);
+    }
+}
+
+// Places one entry, or empties its slot.
+fn set<P: Copy>(slots: &mut Vec<Slot<P>>, index: usize, place: Option<P>)
+    ensures places { places slots.new.items ≡ slice_set (places slots.old.items) index place }
+    ensures lengths { lengths slots.new.items ≡ lengths slots.old.items }
+{
+    if let Some(slot) = slots.get_mut(index) {
+        slot.place = place;
     }
 }
