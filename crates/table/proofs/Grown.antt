@@ -1,12 +1,22 @@
--- Rows that are made slot by slot.
-use Rattle.std.proofs.Common.{◌≡◌, ℕ, ◌+◌, ◌<◌, List, [], ◌∷◌, ◌++◌, map, length, get_or, take, set, sym, ap, ◌∙◌, ap₂}
-use Rattle.std.proofs.lemmas.List.{map_push, take_more, take_more_set}
+-- Two numbers more of a row, which is one channel more.
+use Rattle.std.proofs.Common.{◌≡◌, ℕ, ◌+◌, ◌*◌, [], ◌∷◌, ◌++◌, map, replicate, sym, ap, ◌∙◌, ap₂, arith}
+use Rattle.std.specs.List.{range_with_len}
+use Rattle.std.proofs.lemmas.List.FromFn.{map-range_with_len_more}
+use Rattle.std.proofs.lemmas.List.{append_assoc, replicate_more}
 
--- one more, field by field
-pub pushed_field : {X Y : Type 0} (f : X → Y) (xs ys : List X) (x : X) (zs : List Y) → ys ≡ xs ++ x ∷ [] → map f xs ≡ zs → map f ys ≡ zs ++ f x ∷ []
-pushed_field f xs ys x zs e h = ap (map f) e ∙ map_push f xs x ∙ ap (λ l. l ++ f x ∷ []) h
+pub two_more : {X : Type 0} (f : ℕ → X) (i : ℕ) (x : X) → f (2 * i) ≡ x → f (2 * i + 1) ≡ x → map f (range_with_len 0 (2 * i)) ++ x ∷ (x ∷ []) ≡ map f (range_with_len 0 (2 * (i + 1)))
+two_more f i x a b =
+    let n : 2 * i + 1 + 1 ≡ 2 * (i + 1) = omega arith in
+    ap₂ (λ y z. map f (range_with_len 0 (2 * i)) ++ y ∷ (z ∷ [])) (sym a) (sym b)
+    ∙ sym (append_assoc (map f (range_with_len 0 (2 * i))) (f (2 * i) ∷ []) (f (2 * i + 1) ∷ []))
+    ∙ ap (λ xs. xs ++ f (2 * i + 1) ∷ []) (sym (map-range_with_len_more f 0 (2 * i) (2 * i) (omega arith)))
+    ∙ sym (map-range_with_len_more f 0 (2 * i + 1) (2 * i + 1) (omega arith))
+    ∙ ap (λ k. map f (range_with_len 0 k)) n
 
--- a row that is filled from its front like another
-pub filled_more : {X : Type 0} (xs ys zs : List X) (i : ℕ) (x d : X) → i < length xs → i < length zs → ys ≡ set xs i x → x ≡ get_or zs i d → take i xs ≡ take i zs → take (i + 1) ys ≡ take (i + 1) zs
-filled_more xs ys zs i x d h k e is same =
-    ap (take (i + 1)) e ∙ take_more_set xs i x h ∙ ap₂ (λ l z. l ++ z ∷ []) same is ∙ sym (take_more zs i d k)
+pub two_same : {X : Type 0} (i : ℕ) (x : X) → replicate (2 * i) x ++ x ∷ (x ∷ []) ≡ replicate (2 * (i + 1)) x
+two_same i x =
+    let n : 2 * i + 1 + 1 ≡ 2 * (i + 1) = omega arith in
+    sym (append_assoc (replicate (2 * i) x) (x ∷ []) (x ∷ []))
+    ∙ ap (λ xs. xs ++ x ∷ []) (replicate_more (2 * i) x)
+    ∙ replicate_more (2 * i + 1) x
+    ∙ ap (λ k. replicate k x) n

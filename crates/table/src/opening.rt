@@ -4,23 +4,24 @@ ghost use Rattle.std.specs.List.{range_with_len};
 ghost use Rattle.board.specs.Entries.{transfer, length_of};
 ghost use Rattle.board.specs.Sheets.{empty};
 ghost use Rattle.plan.specs.Views.{view};
+ghost use Rattle.slots.specs.Views.{places, lengths};
 ghost use Rattle.table.specs.Tables.{sheet};
 
 use crate::model::Table;
 use plan::Plan;
-use slots::{ExecSlot, Slots, TransferSlot};
+use slots::{ExecSlot, Slot, Slots, TransferSlot};
 use std::alloc::{AllocError, Global};
 
 // An empty slot for each exec.
 fn exec_slots(heap: Global, plan: &Plan) -> Result<Vec<ExecSlot>, AllocError>
-    ensures lengths { IfOk result (λ v. map (λ x. x.length) v.items ≡ map (λ t. t.limit) (view plan.now).tasks) }
-    ensures seats { IfOk result (λ v. map (λ x. x.seat) v.items ≡ replicate (length (view plan.now).tasks) nothing) }
+    ensures lengths { IfOk result (λ v. lengths v.items ≡ map (λ t. t.limit) (view plan.now).tasks) }
+    ensures places { IfOk result (λ v. places v.items ≡ replicate (length (view plan.now).tasks) nothing) }
 {
     let mut slots = Vec::new(heap);
     for task in plan.tasks() {
-        slots.push(ExecSlot {
+        slots.push(Slot {
             length: task.limit,
-            seat: None,
+            place: None,
         })?;
     }
     Ok(slots)
@@ -28,17 +29,16 @@ fn exec_slots(heap: Global, plan: &Plan) -> Result<Vec<ExecSlot>, AllocError>
 
 // An empty slot for the write and the read of each channel.
 fn transfer_slots(heap: Global, plan: &Plan) -> Result<Vec<TransferSlot>, AllocError>
-    ensures lengths { IfOk result (λ v. map (λ x. x.length) v.items ≡ map (λ v. length_of (view plan.now) (transfer v)) (range_with_len 0 (2 * length (view plan.now).channels))) }
-    ensures starts { IfOk result (λ v. map (λ x. x.start) v.items ≡ replicate (2 * length (view plan.now).channels) nothing) }
+    ensures lengths { IfOk result (λ v. lengths v.items ≡ map (λ v. length_of (view plan.now) (transfer v)) (range_with_len 0 (2 * length (view plan.now).channels))) }
+    ensures places { IfOk result (λ v. places v.items ≡ replicate (2 * length (view plan.now).channels) nothing) }
 {
     let mut slots = Vec::new(heap);
-    for value in 0..2 * plan.channels().len() {
-        // Each value below that is a transfer of the plan.
-        let length = plan.transfer_length(value / 2).unwrap_or(0);
-        slots.push(TransferSlot {
-            length,
-            start: None,
-        })?;
+    for channel in plan.channels() {
+        let empty = Slot {
+            length: plan.cycles(channel.bytes) as u32,
+            place: None,
+        };
+        slots.extend_from_slice(&[empty, empty])?;
     }
     Ok(slots)
 }

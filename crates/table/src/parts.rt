@@ -1,12 +1,20 @@
 // What a table says.
 ghost use Rattle.std.specs.Prelude.{◌≡◌, None as nothing, slice_index_or};
 ghost use Rattle.board.specs.Sheets.{seat_of};
+ghost use Rattle.slots.specs.Views.{places};
 ghost use Rattle.table.specs.Tables.{sheet};
 
 use crate::model::Table;
 use board::Seat;
 use plan::Plan;
-use slots::{ExecSlot, TransferSlot};
+use slots::{ExecSlot, Slot, TransferSlot};
+
+// Where the entry with this number is placed, none where it is not or there is none.
+fn placed<P: Copy>(slots: &[Slot<P>], number: usize) -> Option<P>
+    ensures { result ≡ slice_index_or (places slots.now) number nothing }
+{
+    slots.get(number)?.place
+}
 
 impl<'p> Table<'p> {
     pub fn plan(&self) -> &'p Plan
@@ -33,10 +41,7 @@ impl<'p> Table<'p> {
     pub fn seat(&self, task: usize) -> Option<Seat>
         ensures { result ≡ seat_of (sheet self.now) task }
     {
-        match self.slots.execs.get(task) {
-            Some(slot) => slot.seat,
-            None => None,
-        }
+        placed(self.execs(), task)
     }
 
     // The start of a transfer, by 2 times its channel, plus 1 for the read; none where it is not placed or the plan lacks
@@ -44,9 +49,6 @@ impl<'p> Table<'p> {
     pub fn start(&self, value: usize) -> Option<u32>
         ensures { result ≡ slice_index_or (sheet self.now).transfers value nothing }
     {
-        match self.slots.transfers.get(value) {
-            Some(slot) => slot.start,
-            None => None,
-        }
+        placed(self.transfers(), value)
     }
 }

@@ -1,13 +1,48 @@
 // Places and withdraws one entry.
-ghost use Rattle.std.specs.Prelude.{◌≡◌, true, is_some};
-ghost use Rattle.board.specs.Placing.{entry_of, known, may_place, may_withdraw, placing, withdrawing};
+ghost use Rattle.std.specs.Prelude.{◌≡◌, ◌^◌, ◌<◌, is_some};
+ghost use Rattle.board.specs.Placing.{entry_of, may_place, may_withdraw, placing, withdrawing};
 ghost use Rattle.board.specs.Sheets.{start};
 ghost use Rattle.placements.specs.Shown.{reported};
-ghost use Rattle.table.specs.Tables.{plan_in, sheet, length_if_known};
+ghost use Rattle.slots.specs.Views.{sheet_of, exec_lengths, transfer_lengths};
+ghost use Rattle.table.specs.Tables.{plan_in, sheet, length_if_known, number_of, with_entry, Leaves};
 
 use crate::model::Table;
 use board::{Entry, Seat};
 use placements::{Fault, in_time};
+use slots::Slots;
+
+// The number of the entry's slot: its task, or 2 times its channel, plus 1 for the read.
+fn number(entry: Entry) -> usize
+    requires { number_of entry < 2 ^ 64 }
+    ensures { result ≡ number_of entry }
+{
+    match entry {
+        Entry::Exec { task, .. } => task,
+        Entry::Write { channel } => 2 * channel,
+        Entry::Read { channel } => 2 * channel + 1,
+    }
+}
+
+// Places the entry, or empties its slot.
+fn set(slots: &mut Slots, entry: Entry, start: Option<u32>)
+    requires { number_of entry < 2 ^ 64 }
+    ensures sheet { sheet_of slots.new ≡ with_entry (sheet_of slots.old) entry start }
+    ensures execs { exec_lengths slots.new ≡ exec_lengths slots.old }
+    ensures transfers { transfer_lengths slots.new ≡ transfer_lengths slots.old }
+{
+    let number = number(entry);
+    match entry {
+        Entry::Exec { core, region, .. } => slots.set_exec(
+            number,
+            start.map(|start| Seat {
+                start,
+                core,
+                region,
+            }),
+        ),
+        Entry::Write { .. } | Entry::Read { .. } => slots.set_transfer(number, start),
+    }
+}
 
 impl Table<'_> {
     // The length of the entry, none where the plan lacks the task, core, region or channel that it names.
@@ -29,13 +64,13 @@ impl Table<'_> {
 
     // Whether the entry is placed; an exec wherever it is seated.
     fn is_placed(&self, entry: Entry) -> bool
-        requires { known (plan_in self.now) entry ≡ true }
+        requires { number_of entry < 2 ^ 64 }
         ensures { result ≡ is_some (start (sheet self.now) (entry_of entry)) }
     {
+        let number = number(entry);
         match entry {
-            Entry::Exec { task, .. } => self.seat(task).is_some(),
-            Entry::Write { channel } => self.start(2 * channel).is_some(),
-            Entry::Read { channel } => self.start(2 * channel + 1).is_some(),
+            Entry::Exec { .. } => self.seat(number).is_some(),
+            Entry::Write { .. } | Entry::Read { .. } => self.start(number).is_some(),
         }
     }
 
@@ -43,9 +78,7 @@ impl Table<'_> {
     fn may_place(&self, entry: Entry, start: u32) -> Result<(), Fault>
         ensures { reported result ≡ may_place (plan_in self.now) (sheet self.now) entry start }
     {
-        let Some(length) = self.length_of(entry) else {
-            return Err(Fault::Unknown { place: 0 });
-        };
+        let length = self.length_of(entry).ok_or(Fault::Unknown { place: 0 })?;
         if !in_time(start, length) {
             return Err(Fault::TooLate { place: 0 });
         }
@@ -59,9 +92,7 @@ impl Table<'_> {
     fn may_withdraw(&self, entry: Entry) -> Result<(), Fault>
         ensures { reported result ≡ may_withdraw (plan_in self.now) (sheet self.now) entry }
     {
-        if self.length_of(entry).is_none() {
-            return Err(Fault::Unknown { place: 0 });
-        }
+        self.length_of(entry).ok_or(Fault::Unknown { place: 0 })?;
         if !self.is_placed(entry) {
             return Err(Fault::NotPlaced);
         }
@@ -70,36 +101,19 @@ impl Table<'_> {
 
     // Sets an empty entry.
     pub fn place(&mut self, entry: Entry, start: u32) -> Result<(), Fault>
-        ensures plan { self.new.plan ≡ self.old.plan }
-        ensures after { (reported result, sheet self.new) ≡ placing (plan_in self.old) (sheet self.old) entry start }
+        ensures { Leaves self.old self.new result (placing (plan_in self.old) (sheet self.old) entry start) }
     {
         self.may_place(entry, start)?;
-        match entry {
-            Entry::Exec { task, core, region } => self.slots.set_exec(
-                task,
-                Some(Seat {
-                    start,
-                    core,
-                    region,
-                }),
-            ),
-            Entry::Write { channel } => self.slots.set_transfer(2 * channel, Some(start)),
-            Entry::Read { channel } => self.slots.set_transfer(2 * channel + 1, Some(start)),
-        }
+        set(&mut self.slots, entry, Some(start));
         Ok(())
     }
 
     // Empties a placed entry, an exec wherever it is seated.
     pub fn withdraw(&mut self, entry: Entry) -> Result<(), Fault>
-        ensures plan { self.new.plan ≡ self.old.plan }
-        ensures after { (reported result, sheet self.new) ≡ withdrawing (plan_in self.old) (sheet self.old) entry }
+        ensures { Leaves self.old self.new result (withdrawing (plan_in self.old) (sheet self.old) entry) }
     {
         self.may_withdraw(entry)?;
-        match entry {
-            Entry::Exec { task, .. } => self.slots.set_exec(task, None),
-            Entry::Write { channel } => self.slots.set_transfer(2 * channel, None),
-            Entry::Read { channel } => self.slots.set_transfer(2 * channel + 1, None),
-        }
+        set(&mut self.slots, entry, None);
         Ok(())
     }
 }

@@ -1,33 +1,24 @@
-use Rattle.std.proofs.Common.{◌≡◌, ◌*◌, [], ◌∷◌, ◌++◌, map, length, replicate, None, vec_items, sym, ap, ◌∙◌, arith}
-use Rattle.std.specs.List.{range_with_len}
-use Rattle.std.proofs.lemmas.List.FromFn.{map-range_with_len_more}
-use Rattle.std.proofs.lemmas.List.{replicate_more}
-use Rattle.std.proofs.lemmas.Bool.Decides.{nat_tests}
+use Rattle.std.proofs.Common.{◌≡◌, ℕ, [], ◌∷◌, ◌++◌, get_or, None, vec_items, sym, ap, ◌∙◌}
+use Rattle.std.proofs.lemmas.List.{map-append}
 use Rattle.board.specs.Entries.{transfer, length_of}
-use Rattle.board.proofs.Fitting.{transfer_takes}
+use Rattle.board.specs.Plans.{no_channel, cycles, transfer_length}
+use Rattle.board.proofs.Entries.{transfer_write, transfer_read}
 use Rattle.plan.specs.Views.{view}
-use Rattle.slots.specs.declared.slot.TransferSlot.{TransferSlot}
-use Rattle.table.proofs.Grown.{pushed_field}
+use Rattle.slots.specs.declared.slot.Slot.{Slot}
+use Rattle.slots.specs.Views.{places, lengths}
+use Rattle.table.proofs.Grown.{two_more, two_same}
 use Rattle.table.proofs.opening.transfer_slots.Goals as goal
 
-pub loop-value-preserved : goal.loop-value-preserved
-loop-value-preserved c =
+pub loop-channel-preserved : goal.loop-channel-preserved
+loop-channel-preserved c =
     let p = view c.args.plan.now in
-    let v = c.loop-value.value in
-    let old = vec_items c.loop-value.slots in
-    let new = vec_items c.push.new.self in
-    let l = c.unwrap_or-length.result in
-    let x : TransferSlot = record { length = l; start = None } in
-    let pushed = c.in_ok-push.ensures.items in
-    let is : l ≡ length_of p (transfer v) = grind (arith, nat_tests, c.unwrap_or-length.ensures, c.transfer_length.ensures, c.channels.ensures, transfer_takes p v) in (
-      pushed_field (λ z. z.length) old new x _ pushed c.loop-value.invariant.0 ∙ ap (λ n. map (λ u. length_of p (transfer u)) (range_with_len 0 v) ++ n ∷ []) is ∙ sym (map-range_with_len_more (λ u. length_of p (transfer u)) 0 v v (omega arith)),
-      pushed_field (λ z. z.start) old new x _ pushed c.loop-value.invariant.1 ∙ replicate_more v None,
-    )
-
-pub returns : goal.returns
-returns c =
-    let end : c.loop-value.value ≡ 2 * length (view c.args.plan.now).channels = omega (arith, ap length c.channels.ensures) in
+    let i = c.loop-channel.channel-index in
+    let old = vec_items c.loop-channel.slots in
+    let is : transfer_length p i ≡ c.cycles.result = sym (c.cycles.ensures.value ∙ ap (λ cs. cycles p (get_or cs i no_channel).bytes) c.channels-channel-items.ensures) in
+    let x : Slot ℕ = record { length = c.cycles.result; place = None } in
+    let more = c.in_ok-extend_from_slice.ensures.items in
     record {
-      lengths = c.loop-value.invariant.0 ∙ ap (λ n. map (λ v. length_of (view c.args.plan.now) (transfer v)) (range_with_len 0 n)) end;
-      starts = c.loop-value.invariant.1 ∙ ap (λ n. replicate n None) end;
+      lengths = ap lengths more ∙ map-append (λ z. z.length) old (x ∷ (x ∷ [])) ∙ ap (λ l. l ++ x.length ∷ (x.length ∷ [])) c.loop-channel.invariant.lengths
+          ∙ two_more (λ v. length_of p (transfer v)) i x.length (ap (length_of p) (transfer_write i) ∙ is) (ap (length_of p) (transfer_read i) ∙ is);
+      places = ap places more ∙ map-append (λ z. z.place) old (x ∷ (x ∷ [])) ∙ ap (λ l. l ++ x.place ∷ (x.place ∷ [])) c.loop-channel.invariant.places ∙ two_same i None;
     }

@@ -1,4 +1,4 @@
-use Rattle.std.proofs.Common.{◌≡◌, ℕ, ◌+◌, ◌≤◌, true, Ok, sym, ap, ◌∙◌, subst, arith}
+use Rattle.std.proofs.Common.{◌≡◌, ℕ, ◌+◌, ◌≤◌, true, Ok, sym, ◌∙◌, subst, arith}
 use Rattle.std.proofs.lemmas.Bool.Decides.{nat_tests}
 use Rattle.board.specs.declared.Entry.{Entry}
 use Rattle.board.specs.Entries.{length_of}
@@ -7,7 +7,7 @@ use Rattle.board.specs.Sheets.{Fits}
 use Rattle.board.proofs.Fitting.{put_fits}
 use Rattle.table.specs.declared.model.Table.{Table}
 use Rattle.table.specs.Tables.{plan_in, sheet}
-use Rattle.table.proofs.Standing.{fits}
+use Rattle.table.proofs.Standing.{fits, with_some}
 use Rattle.table.proofs.model.Table.place.Goals as goal
 
 -- what may be placed still fits when it is
@@ -20,35 +20,10 @@ placed_fits t n a h =
 pub invariant_of-self : goal.invariant_of-self
 invariant_of-self c =
     let t = c.args.self.now in
-    let p = plan_in t in
-    let f = subst (Fits p) (sym (c.set_exec.ensures.sheet ∙ ap (λ n. put (sheet t) n c.args.start) (sym c.in-Exec.is))) (placed_fits t c.args.entry c.args.start c.in_ok-may_place.ensures) in
+    let f = subst (Fits (plan_in t)) (sym (c.set.ensures.sheet ∙ with_some (sheet t) c.args.entry c.args.start)) (placed_fits t c.args.entry c.args.start c.in_ok-may_place.ensures) in
     record {
-      exec_lengths = c.set_exec.ensures.execs ∙ t.exec_lengths;
-      transfer_lengths = c.set_exec.ensures.transfers ∙ t.transfer_lengths;
-      seats_fit = f.seats;
-      ends_fit = f.ends;
-    }
-
-pub invariant_of-self-in-Write : goal.invariant_of-self-in-Write
-invariant_of-self-in-Write c =
-    let t = c.args.self.now in
-    let p = plan_in t in
-    let f = subst (Fits p) (sym (c.set_transfer.ensures.sheet ∙ ap (λ n. put (sheet t) n c.args.start) (sym c.in-Write.is))) (placed_fits t c.args.entry c.args.start c.in_ok-may_place.ensures) in
-    record {
-      exec_lengths = c.set_transfer.ensures.execs ∙ t.exec_lengths;
-      transfer_lengths = c.set_transfer.ensures.transfers ∙ t.transfer_lengths;
-      seats_fit = f.seats;
-      ends_fit = f.ends;
-    }
-
-pub invariant_of-self-in-Read : goal.invariant_of-self-in-Read
-invariant_of-self-in-Read c =
-    let t = c.args.self.now in
-    let p = plan_in t in
-    let f = subst (Fits p) (sym (c.set_transfer-in-Read.ensures.sheet ∙ ap (λ n. put (sheet t) n c.args.start) (sym c.in-Read.is))) (placed_fits t c.args.entry c.args.start c.in_ok-may_place.ensures) in
-    record {
-      exec_lengths = c.set_transfer-in-Read.ensures.execs ∙ t.exec_lengths;
-      transfer_lengths = c.set_transfer-in-Read.ensures.transfers ∙ t.transfer_lengths;
+      exec_lengths = c.set.ensures.execs ∙ t.exec_lengths;
+      transfer_lengths = c.set.ensures.transfers ∙ t.transfer_lengths;
       seats_fit = f.seats;
       ends_fit = f.ends;
     }
