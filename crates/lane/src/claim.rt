@@ -31,7 +31,7 @@ pub(crate) fn end<C: Claim>(claim: &C) -> u32
 const LAST: u32 = 536_870_911;
 
 // A claim of plain numbers, which may say anything: what passes the last cycle is cut.
-#[derive(Clone, Copy)]
+#[derive(Clone, Copy, Default)]
 pub struct Span {
     pub resource: u32,
     pub first: u32,

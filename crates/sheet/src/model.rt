@@ -1,14 +1,24 @@
-// The two states of a sheet, as types.
+// The states of a sheet, as types.
+use std::marker::PhantomData;
 use table::Table;
 
-// A sheet that can be changed.
+// The state in which a sheet can be changed.
+#[derive(Clone, Copy)]
+pub struct Open;
+
+// The state in which a sheet can't be changed until it is reopened.
+#[derive(Clone, Copy)]
+pub struct Shut;
+
+// A sheet of a plan, in the state S.
 #[derive(Drop)]
-pub struct Draft<'p> {
+pub struct Sheet<'p, S> {
     pub(crate) table: Table<'p>,
+    pub(crate) state: PhantomData<S>,
 }
 
+// A sheet that can be changed.
+pub type Draft<'p> = Sheet<'p, Open>;
+
 // A sheet that can't be changed until it is reopened.
-#[derive(Drop)]
-pub struct Closed<'p> {
-    pub(crate) table: Table<'p>,
-}
+pub type Closed<'p> = Sheet<'p, Shut>;

@@ -1,6 +1,6 @@
+mod Summing
 mod Slots
 mod Waiting
 mod Claiming
 mod Reaches
 mod Staying
-mod Summing

@@ -1,8 +1,6 @@
 -- The stays of a table's sheet.
-use Rattle.std.proofs.Common.{◌≡◌, ℕ, ◌+◌, ◌<◌, ◌≤◌, List, map, length, get_or, take, set, Some, None, Option, sym, refl, ap, ◌∙◌, subst, inl, inr, arith}
-use Rattle.std.proofs.lemmas.List.FromFn.{fill_by_all}
-use Rattle.std.proofs.lemmas.List.{get_or-map, get_or-take, get_or-set_same, get_or-set_other, length-map, length-take-le, ext_get_or}
-use Rattle.std.proofs.lemmas.Bool.{cases_eq}
+use Rattle.std.proofs.Common.{◌≡◌, ℕ, ◌+◌, ◌*◌, ◌<◌, ◌≤◌, List, map, length, sum_by, get_or, Some, None, Option, sym, refl, ap, ◌∙◌, subst, arith}
+use Rattle.std.proofs.lemmas.List.{get_or-map, length-map, ext_get_or}
 use Rattle.lane.specs.declared.claim.Span.{Span}
 use Rattle.lane.specs.Claims.{Claimed, no_claim, cut, claim_at}
 use Rattle.board.specs.declared.Seat.{Seat}
@@ -15,8 +13,13 @@ use Rattle.board.proofs.Stays.{stay}
 use Rattle.table.specs.declared.model.Table.{Table}
 use Rattle.table.specs.Tables.{plan_in, sheet}
 use Rattle.totals.specs.Spans.{span_of}
-use Rattle.totals.proofs.Claiming.{uncut}
-use Rattle.totals.proofs.Slots.{seated_below}
+use Rattle.board.specs.Totals.{has_room, clear_stay}
+use Rattle.board.proofs.Counts.{clear_le}
+use Rattle.board.proofs.Members.{sums_map, of_below}
+use Rattle.std.specs.List.{range_with_len}
+use Rattle.std.proofs.lemmas.List.FromFn.{length-range_with_len}
+use Rattle.totals.proofs.Slots.{uncut, seated_below}
+use Rattle.totals.proofs.Summing.{sums_small}
 
 module _ (t : Table) where
   -- a seated task's stay ends behind its start, and by the last cycle
@@ -56,23 +59,19 @@ module _ (t : Table) where
       ∙ e
 
   -- the stay of the i-th task
-  abbrev the_stay : ℕ → Claimed
+  abbrev pub the_stay : ℕ → Claimed
   the_stay i = stay_claim (seat_of (sheet t) i) (first_start (plan_in t) (sheet t) i) (last_end (plan_in t) (sheet t) i)
 
-  -- spans that are filled in from the front
-  abbrev pub StaysBelow : List Span → ℕ → Type 0
-  StaysBelow xs n = (k : ℕ) (d : Span) → k < n → span_of (get_or xs k d) ≡ the_stay k
+  -- ---- sums of stays
+  few : length (range_with_len 0 (length (plan_in t).tasks)) ≤ 64
+  few = omega (arith, length-range_with_len 0 (length (plan_in t).tasks), t.plan.now.task_count.1)
 
-  pub stays_more : (xs : List Span) (i : ℕ) (x : Span) → i < length xs → StaysBelow xs i → span_of x ≡ the_stay i → StaysBelow (set xs i x) (i + 1)
-  stays_more xs i x h below here k d l =
-      elim (cases_eq k i) [
-        | inl e ↦ ap (λ j. span_of (get_or (set xs i x) j d)) e ∙ ap span_of (get_or-set_same xs i x d h) ∙ here ∙ ap the_stay (sym e)
-        | inr e ↦ ap span_of (get_or-set_other xs i k x d e) ∙ below k d (omega arith)
-      ]
+  pub lengths_small : sum_by (λ c. c.length) (stay_claims (plan_in t) (sheet t)) ≤ 64 * 536870911
+  lengths_small =
+      let tasks = range_with_len 0 (length (plan_in t).tasks) in
+      omega (arith, few, sums_map (λ c. c.length) the_stay tasks, sums_small (λ i. (the_stay i).length) tasks (λ i m. omega (arith, stay_small_at i (seat_of (sheet t) i) refl (of_below (length (plan_in t).tasks) i m))))
 
-  pub stays_all : (xs : List Span) → length (plan_in t).tasks ≤ length xs → StaysBelow xs (length (plan_in t).tasks) → map span_of (take (length (plan_in t).tasks) xs) ≡ stay_claims (plan_in t) (sheet t)
-  stays_all xs h below =
-      let n = length (plan_in t).tasks in
-      let nothing : Span = record { resource = 0; first = 0; length = 0 } in
-      fill_by_all the_stay (map span_of (take n xs)) n no_claim (length-map (take n xs) span_of ∙ length-take-le n xs h)
-      (λ k l. get_or-map span_of (take n xs) k nothing no_claim (omega (arith, length-take-le n xs h)) ∙ ap span_of (get_or-take n xs k nothing l) ∙ below k nothing l)
+  pub clear_small : sum_by (clear_stay (plan_in t) (sheet t)) (range_with_len 0 (length (plan_in t).tasks)) ≤ 64 * 536870911
+  clear_small =
+      let p = plan_in t in
+      omega (arith, few, sums_small (clear_stay p (sheet t)) (range_with_len 0 (length p.tasks)) (λ i m. omega (arith, clear_le (stay_claims p (sheet t)) i (λ k. has_room p i (seat_of (sheet t) i)), stay_small i (of_below (length p.tasks) i m))))

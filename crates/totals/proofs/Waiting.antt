@@ -1,5 +1,6 @@
 -- What a task's exec waits for, channel by channel.
-use Rattle.std.proofs.Common.{◌≡◌, ℕ, ◌+◌, ◌-◌, ◌<◌, ◌≤◌, Bool, true, false, cond, ◌&&◌, eqb, List, [], ◌∷◌, map, length, Some, filter, refl, ap, ◌∙◌, arith}
+use Rattle.std.proofs.Common.{◌≡◌, ℕ, ◌+◌, ◌-◌, ◌<◌, ◌≤◌, max, Bool, true, false, cond, ◌&&◌, eqb, leb, List, [], ◌∷◌, map, length, Some, None, filter, sym, refl, ap, ◌∙◌, arith}
+use Rattle.std.proofs.lemmas.Bool.Decides.{nat_tests}
 use Rattle.std.specs.List.{range_with_len, list_all}
 use Rattle.std.proofs.lemmas.Bool.{le-leb}
 use Rattle.board.specs.Entries.{exec, read, consumer}
@@ -41,3 +42,30 @@ module _ (p : PlanView) (s : Sheet) (t k : ℕ) where
 
   pub waiting_none : (b : Bool) (i : ℕ) → length p.channels ≤ i → (b && list_all awaits (range_with_len i (length p.channels - i))) ≡ b
   waiting_none b i h = ap (λ cs. b && list_all awaits cs) (rest_none (length p.channels) i h) ∙ and_true b
+
+  -- a channel into the task, whose read ends then, and any other channel
+  pub waiting_into : (at m i : ℕ) → i < length p.channels → eqb (consumer p i) t ≡ true → Some m ≡ end p s (read i) → (ended_by k (Some at) && list_all awaits (range_with_len i (length p.channels - i))) ≡ (ended_by k (Some (max m at)) && list_all awaits (range_with_len (i + 1) (length p.channels - (i + 1))))
+  waiting_into at m i h e q =
+      waiting_more (ended_by k (Some at)) i h
+      ∙ ap (λ b. b && list_all awaits (range_with_len (i + 1) (length p.channels - (i + 1))))
+      (ap (λ o. ended_by k (Some at) && ended_by k o) (ap (λ b. cond b (end p s (read i)) (Some 0)) e ∙ sym q) ∙ both_by at m)
+    where
+      both_by : (a b : ℕ) → (leb a k && leb b k) ≡ leb (max b a) k
+      both_by a b = grind (arith, nat_tests)
+
+  pub waiting_past : (at i : ℕ) → i < length p.channels → eqb (consumer p i) t ≡ false → (ended_by k (Some at) && list_all awaits (range_with_len i (length p.channels - i))) ≡ (ended_by k (Some at) && list_all awaits (range_with_len (i + 1) (length p.channels - (i + 1))))
+  waiting_past at i h e =
+      waiting_more (ended_by k (Some at)) i h
+      ∙ ap (λ b. b && list_all awaits (range_with_len (i + 1) (length p.channels - (i + 1))))
+      (ap (λ o. ended_by k (Some at) && ended_by k o) (ap (λ b. cond b (end p s (read i)) (Some 0)) e) ∙ ap (λ b. ended_by k (Some at) && b) (le-leb 0 k (omega arith)) ∙ and_true (ended_by k (Some at)))
+
+  -- a read into the task that is not placed
+  pub waiting_never : (b : Bool) (i : ℕ) → i < length p.channels → eqb (consumer p i) t ≡ true → None ≡ end p s (read i) → (b && list_all awaits (range_with_len i (length p.channels - i))) ≡ false
+  waiting_never b i h e q =
+      waiting_more b i h
+      ∙ ap (λ o. (b && ended_by k o) && list_all awaits (range_with_len (i + 1) (length p.channels - (i + 1)))) (ap (λ d. cond d (end p s (read i)) (Some 0)) e ∙ sym q)
+      ∙ never b (list_all awaits (range_with_len (i + 1) (length p.channels - (i + 1))))
+    where
+      never : (b d : Bool) → ((b && false) && d) ≡ false
+      never true d = refl
+      never false d = refl

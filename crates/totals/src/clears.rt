@@ -1,38 +1,34 @@
 // How many cycles of each claim are clear.
-ghost use Rattle.std.specs.Prelude.{◌≡◌, map};
+ghost use Rattle.std.specs.Prelude.{◌≡◌};
 ghost use Rattle.board.specs.Entries.{exec, transfer};
 ghost use Rattle.board.specs.Sheets.{seat_of};
-ghost use Rattle.board.specs.Stays.{stay_claims};
 ghost use Rattle.board.specs.Totals.{clear_of, clear_stay, has_room};
 ghost use Rattle.table.specs.Tables.{plan_in, sheet};
-ghost use Rattle.totals.specs.Spans.{span_of};
 
+use crate::all::Stays;
 use crate::ends::{exec_ready, transfer_ready};
-use crate::stays::stays;
-use lane::{Span, alone};
+use crate::stays::stay;
+use arrayvec::ArrayVec;
+use lane::alone;
 use table::Table;
 
 // How many cycles of a task's exec are clear: alone on its core, and all reads into the task have ended.
 pub fn clear_exec(table: &Table<'_>, task: usize) -> u32
     ensures { result ≡ clear_of (plan_in table.now) (sheet table.now) (exec task) }
 {
-    match exec_ready(table, task) {
-        Some(from) => alone(table.execs(), task, from),
-        None => 0,
-    }
+    let execs = table.execs();
+    exec_ready(table, task).map_or(0, |from| alone(execs, task, from))
 }
 
 // How many cycles of a transfer are clear: alone on the bus, and what the transfer waits for has ended.
 pub fn clear_transfer(table: &Table<'_>, value: usize) -> u32
     ensures { result ≡ clear_of (plan_in table.now) (sheet table.now) (transfer value) }
 {
-    if value >= table.transfers().len() {
+    let transfers = table.transfers();
+    if value >= transfers.len() {
         return 0;
     }
-    match transfer_ready(table, value) {
-        Some(from) => alone(table.transfers(), value, from),
-        None => 0,
-    }
+    transfer_ready(table, value).map_or(0, |from| alone(transfers, value, from))
 }
 
 // Whether a task is seated in a region that is large enough for it.
@@ -47,22 +43,32 @@ fn has_room(table: &Table<'_>, task: usize) -> bool
     need <= table.plan().regions()[seat.region as usize]
 }
 
-// How many cycles of a task's stay are clear, among these stays.
-pub(crate) fn clear_among(table: &Table<'_>, stays: &[Span], task: usize) -> u32
-    requires { map span_of stays.now ≡ stay_claims (plan_in table.now) (sheet table.now) }
-    ensures { result ≡ clear_stay (plan_in table.now) (sheet table.now) task }
-{
-    if has_room(table, task) {
-        alone(stays, task, 0)
-    } else {
-        0
+impl<'t, 'p> Stays<'t, 'p> {
+    pub(crate) fn of(table: &'t Table<'p>) -> Stays<'t, 'p>
+        ensures { result.table ≡ table.entry }
+    {
+        let mut spans = ArrayVec::new();
+        for task in 0..table.plan().tasks().len() {
+            spans.push(stay(table, task));
+        }
+        Stays { table, spans }
+    }
+
+    // How many cycles of a task's stay are clear: alone in its region, which is large enough.
+    pub(crate) fn clear(&self, task: usize) -> u32
+        ensures { result ≡ clear_stay (plan_in self.now.table.now) (sheet self.now.table.now) task }
+    {
+        if has_room(self.table, task) {
+            alone(self.spans.as_slice(), task, 0)
+        } else {
+            0
+        }
     }
 }
 
-// How many cycles of a task's stay are clear: alone in its region, which is large enough.
+// How many cycles of a task's stay are clear.
 pub fn clear_stay(table: &Table<'_>, task: usize) -> u32
     ensures { result ≡ clear_stay (plan_in table.now) (sheet table.now) task }
 {
-    let all = stays(table);
-    clear_among(table, &all[0..table.plan().tasks().len()], task)
+    Stays::of(table).clear(task)
 }

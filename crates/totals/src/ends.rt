@@ -1,61 +1,48 @@
 // When entries end, and when what they wait for has ended.
-ghost use Rattle.std.specs.Prelude.{◌≡◌, ℕ, ◌*◌, ◌<◌, ◌&&◌, length, if◌then◌else◌, Some as there, nat_eq};
-ghost use Rattle.board.specs.Entries.{exec, read, transfer, consumer};
+ghost use Rattle.std.specs.Prelude.{◌≡◌, ℕ, ◌*◌, ◌<◌, ◌≤◌, length, slice_index_or, Some as there, None as nothing};
+ghost use Rattle.board.specs.Entries.{exec, transfer};
 ghost use Rattle.board.specs.Sheets.{end};
 ghost use Rattle.board.specs.Totals.{ended_by, ready};
 ghost use Rattle.table.specs.Tables.{plan_in, sheet};
+ghost use Rattle.totals.specs.Ends.{ends};
 
+use slots::{Place, Slot};
 use table::Table;
+
+// The end of the entry with this number, if it is placed.
+fn end_of<P: Place>(slots: &[Slot<P>], number: usize) -> Option<u32>
+    requires { (z : ℕ) → slice_index_or (ends P.from slots.now) number nothing ≡ there z → z ≤ 536870911 }
+    ensures { result ≡ slice_index_or (ends P.from slots.now) number nothing }
+{
+    let slot = slots.get(number)?;
+    Some(slot.place?.start() + slot.length)
+}
 
 // The end of a task's exec, if it is placed.
 pub(crate) fn exec_end(table: &Table<'_>, task: usize) -> Option<u32>
     ensures { result ≡ end (plan_in table.now) (sheet table.now) (exec task) }
 {
-    let slot = table.execs().get(task)?;
-    let seat = slot.seat?;
-    Some(seat.start + slot.length)
+    end_of(table.execs(), task)
 }
 
 // The end of a transfer, if it is placed.
 fn transfer_end(table: &Table<'_>, value: usize) -> Option<u32>
     ensures { result ≡ end (plan_in table.now) (sheet table.now) (transfer value) }
 {
-    let slot = table.transfers().get(value)?;
-    let start = slot.start?;
-    Some(start + slot.length)
-}
-
-// The later of two ends, none where one is lacking.
-fn both(a: Option<u32>, b: Option<u32>) -> Option<u32>
-    ensures { (k : ℕ) → ended_by k result ≡ (ended_by k a && ended_by k b) }
-{
-    match (a, b) {
-        (Some(a), Some(b)) => Some(a.max(b)),
-        _ => None,
-    }
-}
-
-// The end of the read of a channel, where that goes into the task; else 0, since the task does not wait for it.
-fn read_end(table: &Table<'_>, task: usize, channel: usize) -> Option<u32>
-    requires { channel < length (plan_in table.now).channels }
-    ensures { result ≡ (if nat_eq (consumer (plan_in table.now) channel) task then end (plan_in table.now) (sheet table.now) (read channel) else there 0) }
-{
-    if table.plan().channels()[channel].to == task {
-        transfer_end(table, 2 * channel + 1)
-    } else {
-        Some(0)
-    }
+    end_of(table.transfers(), value)
 }
 
 // When everything that a task's exec waits for has ended; none where something is not placed.
 pub(crate) fn exec_ready(table: &Table<'_>, task: usize) -> Option<u32>
     ensures { (k : ℕ) → ended_by k result ≡ ready (plan_in table.now) (sheet table.now) (exec task) k }
 {
-    let mut at = Some(0);
-    for channel in 0..table.plan().channels().len() {
-        at = both(at, read_end(table, task, channel));
+    let mut at = 0;
+    for (number, channel) in table.plan().channels().iter().enumerate() {
+        if channel.to == task {
+            at = transfer_end(table, 2 * number + 1)?.max(at);
+        }
     }
-    at
+    Some(at)
 }
 
 // When what a transfer waits for has ended; none where that is not placed.

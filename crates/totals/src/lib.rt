@@ -1,6 +1,7 @@
 // The totals of a sheet, by claims on the lane: wanted, and how many cycles are clear.
 #![tactic(auto)]
 
+mod all;
 mod clears;
 mod ends;
 mod stays;

@@ -1,9 +1,9 @@
-// The stays of a sheet.
-ghost use Rattle.std.specs.Prelude.{◌≡◌, ℕ, ◌+◌, ◌<◌, ◌≤◌, min, max, map, length, take, if◌then◌else◌, Some as there, None as nothing};
+// The stay of one task.
+ghost use Rattle.std.specs.Prelude.{◌≡◌, ℕ, ◌+◌, ◌≤◌, min, max, if◌then◌else◌, Some as there, None as nothing};
 ghost use Rattle.std.specs.Option.{option_map};
 ghost use Rattle.board.specs.Entries.{exec as exec_of};
 ghost use Rattle.board.specs.Sheets.{seat_of, start, end};
-ghost use Rattle.board.specs.Stays.{of_two, first_start, last_end, stay_claim, stay_claims};
+ghost use Rattle.board.specs.Stays.{of_two, first_start, last_end, stay_claim};
 ghost use Rattle.table.specs.Tables.{plan_in, sheet};
 ghost use Rattle.totals.specs.Spans.{span_of};
 
@@ -11,13 +11,6 @@ use crate::ends::exec_end;
 use lane::Span;
 use slots::TransferSlot;
 use table::Table;
-
-// No cycle.
-const NOTHING: Span = Span {
-    resource: 0,
-    first: 0,
-    length: 0,
-};
 
 // From the first start to the last end of what was seen of a task.
 #[derive(Clone, Copy)]
@@ -29,11 +22,11 @@ struct Reach {
 impl Reach {
     // With one transfer more, if it is the task's own and is placed.
     fn with(self, own: bool, slot: &TransferSlot) -> Reach
-        requires { (a : ℕ) → slot.now.start ≡ there a → a + slot.now.length ≤ 536870911 }
-        ensures first { there result.first ≡ of_two min (there self.first) (if own then slot.now.start else nothing) }
-        ensures end { there result.end ≡ of_two max (there self.end) (if own then option_map (λ a. a + slot.now.length) slot.now.start else nothing) }
+        requires { (a : ℕ) → slot.now.place ≡ there a → a + slot.now.length ≤ 536870911 }
+        ensures first { there result.first ≡ of_two min (there self.first) (if own then slot.now.place else nothing) }
+        ensures end { there result.end ≡ of_two max (there self.end) (if own then option_map (λ a. a + slot.now.length) slot.now.place else nothing) }
     {
-        match slot.start {
+        match slot.place {
             Some(start) if own => Reach {
                 first: self.first.min(start),
                 end: self.end.max(start + slot.length),
@@ -50,13 +43,12 @@ fn reach_of(table: &Table<'_>, task: usize, exec: Reach) -> Reach
     ensures first { there result.first ≡ first_start (plan_in table.now) (sheet table.now) task }
     ensures end { there result.end ≡ last_end (plan_in table.now) (sheet table.now) task }
 {
-    let (channels, slots) = (table.plan().channels(), table.transfers());
+    let slots = table.transfers();
     let mut reach = exec;
-    for i in 0..channels.len() {
-        let channel = channels[i];
+    for (number, channel) in table.plan().channels().iter().enumerate() {
         reach = reach
-            .with(channel.to == task, &slots[2 * i + 1])
-            .with(channel.from == task, &slots[2 * i]);
+            .with(channel.to == task, &slots[2 * number + 1])
+            .with(channel.from == task, &slots[2 * number]);
     }
     reach
 }
@@ -67,7 +59,7 @@ pub fn stay(table: &Table<'_>, task: usize) -> Span
     ensures { span_of result ≡ stay_claim (seat_of (sheet table.now) task) (first_start (plan_in table.now) (sheet table.now) task) (last_end (plan_in table.now) (sheet table.now) task) }
 {
     let (Some(seat), Some(end)) = (table.seat(task), exec_end(table, task)) else {
-        return NOTHING;
+        return Span::NOTHING;
     };
     let exec = Reach {
         first: seat.start,
@@ -79,16 +71,4 @@ pub fn stay(table: &Table<'_>, task: usize) -> Span
         first: reach.first,
         length: reach.end - reach.first,
     }
-}
-
-// The stays of all tasks, in the front of a table that is as long as a plan may need it.
-pub(crate) fn stays(table: &Table<'_>) -> [Span; 64]
-    ensures claims { map span_of (take (length (plan_in table.now).tasks) result) ≡ stay_claims (plan_in table.now) (sheet table.now) }
-    ensures long { length result ≡ 64 }
-{
-    let mut stays = [NOTHING; 64];
-    for task in 0..table.plan().tasks().len() {
-        stays[task] = stay(table, task);
-    }
-    stays
 }

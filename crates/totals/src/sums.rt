@@ -1,79 +1,64 @@
 // The totals.
-ghost use Rattle.std.specs.Prelude.{◌≡◌, ◌*◌, ◌<◌, ◌≤◌, ◌↔◌, map, length, sum_by, slice_index_or};
+ghost use Rattle.std.specs.Prelude.{◌≡◌, ℕ, ◌<◌, ◌≤◌, ◌↔◌, length, sum_by};
 ghost use Rattle.std.specs.List.{range_with_len};
-ghost use Rattle.lane.specs.Claims.{claim_at};
-ghost use Rattle.board.specs.Entries.{exec, length_of, entries};
+ghost use Rattle.board.specs.Entries.{length_of, entries};
 ghost use Rattle.board.specs.Runs.{Faultless};
 ghost use Rattle.board.specs.Sound.{EqualTotalsMeanNoFault};
 ghost use Rattle.board.specs.Stays.{stay_claims};
 ghost use Rattle.board.specs.Totals.{wanted, clear, clear_of, clear_stay};
 ghost use Rattle.table.specs.Tables.{plan_in, sheet};
-ghost use Rattle.totals.specs.Spans.{span_of};
 
-use crate::clears::{clear_among, clear_exec, clear_transfer};
-use crate::stays::stays;
-use lane::Span;
+use crate::all::Stays;
+use crate::clears::{clear_exec, clear_transfer};
+use slots::Slot;
 use table::Table;
 
-// The length of the entry with this index in file order, and how many of its cycles are clear.
-fn of_entry(table: &Table<'_>, index: usize) -> (u32, u32)
-    requires { index < length (entries (plan_in table.now)) }
-    ensures wanted { result.0 ≡ length_of (plan_in table.now) (slice_index_or (entries (plan_in table.now)) index (exec 0)) }
-    ensures clear { result.1 ≡ clear_of (plan_in table.now) (sheet table.now) (slice_index_or (entries (plan_in table.now)) index (exec 0)) }
-    ensures bound { (result.0 ≤ 4294967295) × (result.1 ≤ 4294967295) }
+// The lengths of all these slots.
+fn lengths<P>(slots: &[Slot<P>]) -> u64
+    requires { length slots.now ≤ 1000 }
+    ensures { result ≡ sum_by (λ x. x.length) slots.now }
 {
-    let tasks = table.execs().len();
-    if index < tasks {
-        (table.execs()[index].length, clear_exec(table, index))
-    } else {
-        let value = index - tasks;
-        (
-            table.transfers()[value].length,
-            clear_transfer(table, value),
+    slots.iter().map(|slot| u64::from(slot.length)).sum()
+}
+
+// The sum of a number for each of the first so many.
+fn sum<F: Fn(usize) -> u32>(count: usize, number: F) -> u64
+    requires few { count ≤ 1000 }
+    requires callable { F.IsAlwaysCallable number }
+    ensures { (f : ℕ → ℕ) → ((i n : ℕ) → i < count → F.post number i n → n ≡ f i) → result ≡ sum_by f (range_with_len 0 count) }
+{
+    let mut total = 0;
+    for i in 0..count {
+        total += u64::from(number(i));
+    }
+    total
+}
+
+// How many cycles of all entries are clear.
+fn clear_cycles(table: &Table<'_>) -> u64
+    ensures { result ≡ sum_by (clear_of (plan_in table.now) (sheet table.now)) (entries (plan_in table.now)) }
+{
+    sum(table.execs().len(), |task| clear_exec(table, task))
+        + sum(
+            table.transfers().len(),
+            |value| clear_transfer(table, value),
         )
-    }
 }
 
-// The lengths of all entries, and how many of their cycles are clear.
-fn of_entries(table: &Table<'_>) -> (u64, u64)
-    ensures wanted { result.0 ≡ sum_by (length_of (plan_in table.now)) (entries (plan_in table.now)) }
-    ensures clear { result.1 ≡ sum_by (clear_of (plan_in table.now) (sheet table.now)) (entries (plan_in table.now)) }
-    ensures bound { (result.0 ≤ 1000 * 4294967295) × (result.1 ≤ 1000 * 4294967295) }
-{
-    let (mut wanted, mut clear) = (0, 0);
-    for index in 0..table.execs().len() + table.transfers().len() {
-        let (length, cycles) = of_entry(table, index);
-        wanted += u64::from(length);
-        clear += u64::from(cycles);
+impl Stays<'_, '_> {
+    // The lengths of all stays.
+    fn lengths(&self) -> u64
+        ensures { result ≡ sum_by (λ c. c.length) (stay_claims (plan_in self.now.table.now) (sheet self.now.table.now)) }
+    {
+        self.spans.iter().map(|span| u64::from(span.length)).sum()
     }
-    (wanted, clear)
-}
 
-// The length of a task's stay, and how many of its cycles are clear.
-fn of_stay(table: &Table<'_>, stays: &[Span], task: usize) -> (u32, u32)
-    requires claims { map span_of stays.now ≡ stay_claims (plan_in table.now) (sheet table.now) }
-    requires within { task < length stays.now }
-    ensures wanted { result.0 ≡ (claim_at (stay_claims (plan_in table.now) (sheet table.now)) task).length }
-    ensures clear { result.1 ≡ clear_stay (plan_in table.now) (sheet table.now) task }
-    ensures bound { (result.0 ≤ 4294967295) × (result.1 ≤ 4294967295) }
-{
-    (stays[task].length, clear_among(table, stays, task))
-}
-
-// The lengths of all stays, and how many of their cycles are clear.
-fn of_stays(table: &Table<'_>, stays: &[Span]) -> (u64, u64)
-    requires { map span_of stays.now ≡ stay_claims (plan_in table.now) (sheet table.now) }
-    ensures wanted { result.0 ≡ sum_by (λ c. c.length) (stay_claims (plan_in table.now) (sheet table.now)) }
-    ensures clear { result.1 ≡ sum_by (clear_stay (plan_in table.now) (sheet table.now)) (range_with_len 0 (length (plan_in table.now).tasks)) }
-    ensures bound { (result.0 ≤ 1000 * 4294967295) × (result.1 ≤ 1000 * 4294967295) }
-{
-    let (mut wanted, mut clear) = (0, 0);
-    for task in 0..stays.len() {
-        let (length, cycles) = of_stay(table, stays, task);
-        wanted += u64::from(length);
-        clear += u64::from(cycles);
+    // How many cycles of all stays are clear.
+    fn clear_cycles(&self) -> u64
+        ensures { result ≡ sum_by (clear_stay (plan_in self.now.table.now) (sheet self.now.table.now)) (range_with_len 0 (length (plan_in self.now.table.now).tasks)) }
+    {
+        sum(self.spans.len(), |task| self.clear(task))
     }
-    (wanted, clear)
 }
 
 // Wanted, and then clear.
@@ -82,8 +67,9 @@ pub fn totals(table: &Table<'_>) -> (u64, u64)
     ensures safe { (result.0 ≡ result.1) ↔ Faultless (plan_in table.now) (sheet table.now) }
     ensures law { EqualTotalsMeanNoFault }
 {
-    let all = stays(table);
-    let (lengths, cycles) = of_entries(table);
-    let (stay_lengths, stay_cycles) = of_stays(table, &all[0..table.plan().tasks().len()]);
-    (lengths + stay_lengths, cycles + stay_cycles)
+    let stays = Stays::of(table);
+    (
+        lengths(table.execs()) + lengths(table.transfers()) + stays.lengths(),
+        clear_cycles(table) + stays.clear_cycles(),
+    )
 }

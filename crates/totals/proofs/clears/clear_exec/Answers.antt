@@ -1,23 +1,20 @@
-use Rattle.std.proofs.Common.{map, ap, ◌∙◌}
+use Rattle.std.proofs.Common.{rules, ◌≡◌, ℕ, map, ap, ◌∙◌, Some, None}
 use Rattle.lane.specs.Claims.{alone_count}
+use Rattle.board.specs.declared.Seat.{Seat}
 use Rattle.board.specs.Entries.{exec}
 use Rattle.board.specs.Stays.{exec_claims}
 use Rattle.board.specs.Totals.{ready}
+use Rattle.slots.specs.Views.{slot_claimed}
 use Rattle.table.specs.Tables.{plan_in, sheet}
-use Rattle.slots.specs.Views.{exec_claimed}
-use Rattle.totals.proofs.Claiming.{exec_claims_are, clear_from, clear_never}
+use Rattle.totals.proofs.Slots.{exec_claims_are}
+use Rattle.totals.proofs.Claiming.{clear_by}
 use Rattle.totals.proofs.clears.clear_exec.Goals as goal
 
-pub returns-in-Some : goal.returns-in-Some
-returns-in-Some c =
+pub returns : goal.returns
+returns c =
     let t = c.args.table.now in
-    let p = plan_in t in
-    c.alone.ensures
-    ∙ ap (λ cs. alone_count cs c.args.task c.in-Some.from) (ap (map exec_claimed) c.execs.ensures ∙ exec_claims_are t)
-    ∙ clear_from (exec_claims p (sheet t)) c.args.task (ready p (sheet t) (exec c.args.task)) c.in-Some.from c.in-Some.ensures
-
-pub returns-in-None : goal.returns-in-None
-returns-in-None c =
-    let t = c.args.table.now in
-    let p = plan_in t in
-    clear_never (exec_claims p (sheet t)) c.args.task (ready p (sheet t) (exec c.args.task)) c.in-None.ensures
+    let cs = map (slot_claimed (λ (x : Seat). x.core) (λ x. x.start)) c.execs-execs.result.now in
+    let same : cs ≡ exec_claims (plan_in t) (sheet t) = ap (map (slot_claimed (λ (x : Seat). x.core) (λ x. x.start))) c.execs-execs.ensures ∙ exec_claims_are t in
+    let none : c.exec_ready.result ≡ None → c.map_or.result ≡ 0 = λ e. rw e at c.map_or.ensures in
+    let some : (x : ℕ) → c.exec_ready.result ≡ Some x → c.map_or.result ≡ alone_count cs c.args.task x = λ x e. search rules in
+    rw (← same) (clear_by cs c.args.task c.map_or.result (ready (plan_in t) (sheet t) (exec c.args.task)) c.exec_ready.result c.exec_ready.ensures none some)

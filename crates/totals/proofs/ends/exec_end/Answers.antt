@@ -1,23 +1,14 @@
-use Rattle.std.proofs.Common.{◌∙◌, arith}
-use Rattle.totals.proofs.Slots.{exec_past, exec_slot_empty, exec_slot_end, exec_slot_small}
+use Rattle.std.proofs.Common.{get_or, None, sym, ap, ◌∙◌}
+use Rattle.board.specs.declared.Seat.{Seat}
+use Rattle.board.specs.Entries.{exec}
+use Rattle.totals.specs.Ends.{ends}
+use Rattle.totals.proofs.Slots.{exec_ends, end_small}
 use Rattle.totals.proofs.ends.exec_end.Goals as goal
 
-pub returns-in_err-slot : goal.returns-in_err-slot
-returns-in_err-slot c =
-    c.from_residual.ensures ∙ exec_past c.args.table.now c.execs.result.now c.execs.ensures c.args.task c.in_err-slot.ensures.lookup.3
-
-pub returns-in_err-seat : goal.returns-in_err-seat
-returns-in_err-seat c =
-    let found = c.in_ok-slot.ensures.lookup in
-    c.from_residual-in_err-seat.ensures
-    ∙ exec_slot_empty c.args.table.now c.execs.result.now c.execs.ensures c.args.task c.in_ok-slot.slot.now found.3.0 found.1 c.in_err-seat.was
-
-pub overflow_add-result : goal.overflow_add-result
-overflow_add-result c =
-    let found = c.in_ok-slot.ensures.lookup in
-    omega (arith, exec_slot_small c.args.table.now c.execs.result.now c.execs.ensures c.args.task c.in_ok-slot.slot.now found.3.0 found.1 c.in_ok-seat.seat c.in_ok-seat.was)
+pub end_of-requires : goal.end_of-requires
+end_of-requires c z h =
+    let t = c.args.table.now in
+    end_small t (exec c.args.task) z (sym (exec_ends t c.args.task) ∙ ap (λ xs. get_or (ends (λ (x : Seat). x.start) xs) c.args.task None) (sym c.execs.ensures) ∙ h)
 
 pub returns : goal.returns
-returns c =
-    let found = c.in_ok-slot.ensures.lookup in
-    exec_slot_end c.args.table.now c.execs.result.now c.execs.ensures c.args.task c.in_ok-slot.slot.now found.3.0 found.1 c.in_ok-seat.seat c.in_ok-seat.was
+returns c = c.end_of.ensures ∙ ap (λ xs. get_or (ends (λ (x : Seat). x.start) xs) c.args.task None) c.execs.ensures ∙ exec_ends c.args.table.now c.args.task

@@ -1,0 +1,8 @@
+-- When the entries of slots end.
+use Rattle.std.specs.Prelude.{ℕ, ◌+◌, List, map, Option}
+use Rattle.std.specs.Option.{option_map}
+use Rattle.slots.specs.declared.slot.Slot.{Slot}
+
+-- the end of each entry, if it is placed
+abbrev pub ends : {P : Type 0} → (P → ℕ) → List (Slot P) → List (Option ℕ)
+ends from xs = map (λ x. option_map (λ a. a + x.length) (option_map from x.place)) xs
