@@ -68,8 +68,7 @@ pub fn totals(table: &Table<'_>) -> (u64, u64)
     ensures law { EqualTotalsMeanNoFault }
 {
     let stays = Stays::of(table);
-    (
-        lengths(table.execs()) + lengths(table.transfers()) + stays.lengths(),
-        clear_cycles(table) + stays.clear_cycles(),
-    )
+    let wanted = lengths(table.execs()) + lengths(table.transfers()) + stays.lengths();
+    let clear = clear_cycles(table) + stays.clear_cycles();
+    (wanted, clear)
 }

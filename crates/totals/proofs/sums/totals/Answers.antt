@@ -16,21 +16,21 @@ lengths-requires-2 c =
     let t = c.args.table.now in
     omega (arith, values_long t, ap length c.transfers.ensures, t.plan.now.channel_count)
 
-pub overflow_add-result : goal.overflow_add-result
-overflow_add-result c =
+pub overflow_add-wanted : goal.overflow_add-wanted
+overflow_add-wanted c =
     let t = c.args.table.now in
     let all = lengths_sum t c.execs.result.now c.transfers.result.now c.execs.ensures c.transfers.ensures in
     omega (arith, all, c.lengths.ensures, c.lengths-2.ensures, lengths_small (plan_in t) (valid t.plan.now))
 
-pub overflow_add-result-2 : goal.overflow_add-result-2
-overflow_add-result-2 c =
+pub overflow_add-wanted-2 : goal.overflow_add-wanted-2
+overflow_add-wanted-2 c =
     let t = c.args.table.now in
     let these = c.lengths-3.ensures ∙ ap (λ r. sum_by (λ z. z.length) (stay_claims (plan_in r.now) (sheet r.now))) c.of-stays.ensures in
     let all = lengths_sum t c.execs.result.now c.transfers.result.now c.execs.ensures c.transfers.ensures in
     omega (arith, all, c.lengths.ensures, c.lengths-2.ensures, lengths_small (plan_in t) (valid t.plan.now), these, stays.lengths_small t)
 
-pub overflow_add-result-3 : goal.overflow_add-result-3
-overflow_add-result-3 c =
+pub overflow_add-clear : goal.overflow_add-clear
+overflow_add-clear c =
     let t = c.args.table.now in
     let these = c.clear_cycles-2.ensures ∙ ap (λ r. sum_by (clear_stay (plan_in r.now) (sheet r.now)) (range_with_len 0 (length (plan_in r.now).tasks))) c.of-stays.ensures in
     omega (arith, c.clear_cycles.ensures, clear_small (plan_in t) (valid t.plan.now) (sheet t), these, stays.clear_small t)
