@@ -1,8 +1,9 @@
 -- Words as bytes, and back again. Assumes nothing.
-use Rattle.std.proofs.Common.{◌≡◌, ℕ, ◌+◌, ◌*◌, ◌/◌, ◌%◌, ◌^◌, ◌<◌, ◌≤◌, List, [], ◌∷◌, ◌++◌, length, get_or, drop, Ok, sym, refl, ap, ◌∙◌, arith, length-append}
+use Rattle.std.proofs.Common.{◌≡◌, ℕ, zero, suc, ◌+◌, ◌*◌, ◌/◌, ◌%◌, ◌^◌, ◌<◌, List, [], ◌∷◌, ◌++◌, length, get_or, map, Ok, sym, refl, ap, ◌∙◌, arith}
 use Rattle.std.proofs.lemmas.Nat.{div-add-mod'}
-use Rattle.std.proofs.lemmas.List.{flat_map_more, append_assoc, append-nil}
+use Rattle.std.proofs.lemmas.List.{flat_map_more}
 use Rattle.std.proofs.lemmas.Bool.Decides.{nat_tests}
+use Rattle.std.specs.Simd.{first_chunks}
 use Rattle.std.specs.List.{AllByRecursion}
 use Rattle.words.specs.Bytes.{bytes_of_word, bytes_of, words_by_four, words_in}
 
@@ -40,34 +41,39 @@ pub length_bytes : (ws : List ℕ) → length (bytes_of ws) ≡ 4 * length ws
 length_bytes [] = refl
 length_bytes (w ∷ ws) = let e = length_bytes ws in omega arith
 
--- the words ws are taken off the front of the bytes, and these are left
-abbrev pub Parted : List ℕ → List ℕ → List ℕ → Type 0
-Parted bs ws left = (words_by_four bs ≡ ws ++ words_by_four left) × (bytes_of ws ++ left ≡ bs)
+-- the word of four bytes
+abbrev pub four : List ℕ → ℕ
+four b = get_or b 0 0 * 16777216 + get_or b 1 0 * 65536 + get_or b 2 0 * 256 + get_or b 3 0
 
-pub parted_more : (bs ws left : List ℕ) (a b c d : ℕ) → a < 256 → b < 256 → c < 256 → d < 256 → Parted bs ws (a ∷ b ∷ c ∷ d ∷ left) → Parted bs (ws ++ (a * 16777216 + b * 65536 + c * 256 + d) ∷ []) left
-parted_more bs ws left a b c d ha hb hc hd h =
-    let w : ℕ = a * 16777216 + b * 65536 + c * 256 + d in
-    let e = bytes_again a b c d ha hb hc hd in
-    let m = bytes_more ws w in
-    (rw append_assoc h.0, rw (m, e, append_assoc) h.1)
+-- the words of bytes, by their groups of four
+pub by_fours : (k : ℕ) (bs : List ℕ) → length bs ≡ 4 * k → map four (first_chunks 4 k bs) ≡ words_by_four bs
+by_fours zero [] l = refl
+by_fours zero (a ∷ bs) l = absurd (omega arith)
+by_fours (suc k) [] l = absurd (omega arith)
+by_fours (suc k) (a ∷ []) l = absurd (omega arith)
+by_fours (suc k) (a ∷ b ∷ []) l = absurd (omega arith)
+by_fours (suc k) (a ∷ b ∷ c ∷ []) l = absurd (omega arith)
+by_fours (suc k) (a ∷ b ∷ c ∷ d ∷ bs) l = let r = by_fours k bs (omega arith) in cc
 
--- one turn of a loop that takes a word off
-pub turn : (bs ws left : List ℕ) → 4 ≤ length left → get_or left 0 0 < 256 → get_or left 1 0 < 256 → get_or left 2 0 < 256 → get_or left 3 0 < 256 → Parted bs ws left → Parted bs (ws ++ (get_or left 0 0 * 16777216 + get_or left 1 0 * 65536 + get_or left 2 0 * 256 + get_or left 3 0) ∷ []) (drop 4 left)
-turn bs ws [] l ha hb hc hd h = let no : ⊥ = omega arith in absurd no
-turn bs ws (a ∷ []) l ha hb hc hd h = let no : ⊥ = omega arith in absurd no
-turn bs ws (a ∷ b ∷ []) l ha hb hc hd h = let no : ⊥ = omega arith in absurd no
-turn bs ws (a ∷ b ∷ c ∷ []) l ha hb hc hd h = let no : ⊥ = omega arith in absurd no
-turn bs ws (a ∷ b ∷ c ∷ d ∷ left) l ha hb hc hd h = parted_more bs ws left a b c d ha hb hc hd h
+-- the bytes of the words of whole words
+pub whole_again : (k : ℕ) (bs : List ℕ) → length bs ≡ 4 * k → AllByRecursion (λ b. b < 256) bs → bytes_of (words_by_four bs) ≡ bs
+whole_again zero [] l h = refl
+whole_again zero (a ∷ bs) l h = absurd (omega arith)
+whole_again (suc k) [] l h = absurd (omega arith)
+whole_again (suc k) (a ∷ []) l h = absurd (omega arith)
+whole_again (suc k) (a ∷ b ∷ []) l h = absurd (omega arith)
+whole_again (suc k) (a ∷ b ∷ c ∷ []) l h = absurd (omega arith)
+whole_again (suc k) (a ∷ b ∷ c ∷ d ∷ bs) l h =
+    let e = bytes_again a b c d h.0 h.1.0 h.1.1.0 h.1.1.1.0 in
+    let r = whole_again k bs (omega arith) h.1.1.1.1 in
+    ap (λ x. x ++ bytes_of (words_by_four bs)) e ∙ ap (λ x. a ∷ b ∷ c ∷ d ∷ x) r
 
--- its end, where the bytes are whole words
-pub parted_all : (bs ws left : List ℕ) → length left < 4 → length bs % 4 ≡ 0 → Parted bs ws left → (words_by_four bs ≡ ws) × (bytes_of ws ≡ bs)
-parted_all bs ws [] l m h = (h.0 ∙ append-nil ws, sym (append-nil (bytes_of ws)) ∙ h.1)
-parted_all bs ws (a ∷ left) l m h =
-    let n = ap length h.1 in
-    let k = length-append (bytes_of ws) (a ∷ left) in
-    let j = length_bytes ws in
-    let no : ⊥ = omega arith in
-    absurd no
+pub read_words : (bs ws : List ℕ) → length bs % 4 < 1 → AllByRecursion (λ b. b < 256) bs → ws ≡ map four (first_chunks 4 (length bs / 4) bs) → (words_in bs ≡ Ok ws) × (bytes_of ws ≡ bs)
+read_words bs ws m h e =
+    let l : length bs ≡ 4 * (length bs / 4) = omega arith in
+    let w = e ∙ by_fours (length bs / 4) bs l in
+    let b = whole_again (length bs / 4) bs l h in
+    (grind (arith, nat_tests, w), cc)
 
 -- the bytes of words are whole words
 pub whole : (ws : List ℕ) → words_in (bytes_of ws) ≡ Ok (words_by_four (bytes_of ws))

@@ -1,14 +1,19 @@
 -- What is taken off a row of words is what was written, and what is written can be taken.
 use Rattle.std.proofs.Common.{◌≡◌, ℕ, zero, suc, ◌+◌, ◌/◌, ◌%◌, ◌<◌, ◌≤◌, true, leb, List, [], ◌∷◌, ◌++◌, length, get_or, take, drop, Some, None, Ok, Err, Option, Result, sym, refl, ap, ◌∙◌, arith}
 use Rattle.std.specs.Option.{option_map}
-use Rattle.std.specs.List.{AllByRecursion}
+use denote.Enum.Bare.{sameb}
+use denote.Enum.Declared.{tag_of}
+use Rattle.std.specs.List.{AllByRecursion, list_any, position, position_from}
 use Rattle.std.proofs.lemmas.Nat.{div-add-mod', mod_below, div-mul-add, mod-mul-add}
 use Rattle.std.proofs.lemmas.List.{length-append, length-take-le, take-append-drop, take_at, drop_at}
+use Rattle.std.proofs.lemmas.Iterator.Adapters.{position_from-zero}
 use Rattle.std.proofs.lemmas.Bool.Decides.{nat_tests}
 use Rattle.words.specs.declared.fault.Fault.{Fault}
+use Rattle.words.specs.declared.fault.Fault.TheVariants.{Misplaced}
 use Rattle.words.specs.declared.kind.Kind.{Kind}
 use Rattle.words.specs.declared.kind.Kind.TheVariants.{Machine, Regions, Task, Channel, Exec, Transfer, End}
 use Rattle.words.specs.declared.kind.Opening.{Opening}
+use Rattle.words.specs.contracts.kind.Kind.{the_type}
 use Rattle.words.specs.Kinds.{code, kind_of, word, opening_of, one_of}
 use Rattle.words.specs.Records.{Said, machine, regions, task, channel, exec, transfer, end, opener, words_of, Small, Sayable, and_then, opens, width, width_by, plain, following, saying, saying_by, filled, record_at}
 
@@ -47,7 +52,48 @@ following_written n place f rest l h =
     let le : leb n (length (f ++ rest)) ≡ true = grind (arith, nat_tests, e, l) in
     rw (le, t, d, p) refl
 
+-- what is told of plain words from a place on, where the first that is not plain is known
+abbrev pub plain_to : ℕ → Option ℕ → Result (Unit {0}) Fault
+plain_to at None = Ok tt
+plain_to at (Some i) = Err (Misplaced (at + i))
+
+-- whether every word is plain, by the first that is not
+pub plain_by : (i at : ℕ) (ws : List ℕ) → plain (at + i) ws ≡ plain_to at (position_from (λ w. leb 536870912 w) i ws)
+plain_by i at [] = refl
+plain_by i at (w ∷ ws) =
+    let r = plain_by (i + 1) at ws in
+    let e : at + i + 1 ≡ at + (i + 1) = omega arith in
+    grind (arith, nat_tests, r, e)
+
+pub plain_position : (at : ℕ) (ws : List ℕ) (o : Option ℕ) → o ≡ position (λ w. leb 536870912 w) ws → plain at ws ≡ plain_to at o
+plain_position at ws o h = let e = plain_by 0 at ws in let z = position_from-zero (λ w. leb 536870912 w) ws in let n : at + 0 ≡ at = omega arith in cc
+
+-- words that are there are taken, as far as they are plain
+pub following_to : (n at : ℕ) (ws f rest : List ℕ) (o : Option ℕ) → n ≤ length ws → f ≡ take n ws → rest ≡ drop n ws → o ≡ position (λ w. leb 536870912 w) f → following n at ws ≡ and_then (plain_to at o) (λ _. Ok (f, rest))
+following_to n at ws f rest o l a b h =
+    let p = plain_position at f o h in
+    let le : leb n (length ws) ≡ true = grind (arith, nat_tests) in
+    rw (le, ← a, ← b, p) refl
+
 -- ---- its opening word
+-- the kinds of a list hold a kind, by the library's test or by their numbers
+pub code_tag : (x : Kind) → code x ≡ tag_of the_type x + 1
+code_tag Machine = refl
+code_tag Regions = refl
+code_tag Task = refl
+code_tag Channel = refl
+code_tag Exec = refl
+code_tag Transfer = refl
+code_tag End = refl
+
+pub holds_one_of : (k : Kind) (kinds : List Kind) → list_any (λ x. sameb the_type x k) kinds ≡ one_of kinds k
+holds_one_of k [] = refl
+holds_one_of k (x ∷ kinds) =
+    let a = code_tag x in
+    let b = code_tag k in
+    let r = holds_one_of k kinds in
+    grind (arith, nat_tests, a, b, r)
+
 pub kind_code : (k : ℕ) (x : Kind) → kind_of k ≡ Some x → code x ≡ k
 kind_code k x h = grind (arith, nat_tests)
 
@@ -113,7 +159,7 @@ field_small [] k h = omega arith
 field_small (x ∷ f) zero h = h.0
 field_small (x ∷ f) (suc k) h = field_small f k h.1
 
-pub saying_sayable : (k : Kind) (n place : ℕ) (f : List ℕ) → length f ≡ width_by k n → Small n → AllByRecursion Small f → Sayable place (saying_by k n place f)
+pub saying_sayable : (k : Kind) (n place : ℕ) (f : List ℕ) → length f ≡ width_by k n → Small n → AllByRecursion Small f → Sayable place (saying_by k n (place + 1) f)
 saying_sayable Machine n place f h l s = (l, (field_small f 0 s, (field_small f 1 s, (field_small f 2 s, tt))), tt)
 saying_sayable Regions n place f h l s = (rw h l, s, refl)
 saying_sayable Task n place f h l s = (l, (field_small f 0 s, tt), tt)
@@ -131,16 +177,16 @@ pub record Taken (kinds : List Kind) (place : ℕ) (ws : List ℕ) (x : Said) (r
 abbrev Taking : Type 0
 Taking = Result (Said × List ℕ) Fault
 
-taken_fields : (kinds : List Kind) (place w : ℕ) (ws rest : List ℕ) (o : Opening) (x : Said) (y : Result (List ℕ × List ℕ) Fault) → opening_of w ≡ Some o → one_of kinds o.kind ≡ true → following (width o) (place + 1) ws ≡ y → ◌≡◌ {A = Taking} (and_then y (λ f. Ok (saying o place f.0, f.1))) (Ok (x, rest)) → Taken kinds place (w ∷ ws) x rest
+taken_fields : (kinds : List Kind) (place w : ℕ) (ws rest : List ℕ) (o : Opening) (x : Said) (y : Result (List ℕ × List ℕ) Fault) → opening_of w ≡ Some o → one_of kinds o.kind ≡ true → following (width o) (place + 1) ws ≡ y → ◌≡◌ {A = Taking} (and_then y (λ f. Ok (saying o (place + 1) f.0, f.1))) (Ok (x, rest)) → Taken kinds place (w ∷ ws) x rest
 taken_fields kinds place w ws rest o x (Err e) q a b h = absurd (let z : ◌≡◌ {A = ℕ} 0 1 = grind arith in omega arith)
 taken_fields kinds place w ws rest o x (Ok (f, r)) q a b h =
     let g = following_ok (width o) (place + 1) ws f r b in
     let n = opening_ok w o q in
-    let e : x ≡ saying o place f = grind arith in
+    let e : x ≡ saying o (place + 1) f = grind arith in
     let t : rest ≡ r = grind arith in
-    let u = saying_words o.kind o.number place f g.long in
+    let u = saying_words o.kind o.number (place + 1) f g.long in
     record {
-      allowed = rw (e, saying_opener o.kind o.number place f) a;
+      allowed = rw (e, saying_opener o.kind o.number (place + 1) f) a;
       sayable = rw e (saying_sayable o.kind o.number place f g.long n.1 g.small);
       written = rw (e, t) (rw g.parts (ap (λ v. v ∷ (f ++ r)) (sym n.0)) ∙ ap (λ l. l ++ r) (sym u));
     }
@@ -164,7 +210,7 @@ pub taken_less : (kinds : List Kind) (place : ℕ) (ws rest : List ℕ) (x : Sai
 taken_less kinds place ws rest x h = let a = taken_shorter kinds place ws rest x h in omega arith
 
 -- ---- the other way
-written_by : (kinds : List Kind) (place : ℕ) (k : Kind) (n : ℕ) (f rest : List ℕ) → one_of kinds k ≡ true → Small n → length f ≡ width_by k n → AllByRecursion Small f → record_at kinds place ((word k n ∷ f) ++ rest) ≡ Ok (saying_by k n place f, rest)
+written_by : (kinds : List Kind) (place : ℕ) (k : Kind) (n : ℕ) (f rest : List ℕ) → one_of kinds k ≡ true → Small n → length f ≡ width_by k n → AllByRecursion Small f → record_at kinds place ((word k n ∷ f) ++ rest) ≡ Ok (saying_by k n (place + 1) f, rest)
 written_by kinds place k n f rest a l h s =
     rw (opening_written k n l) (rw a (rw (following_written (width_by k n) (place + 1) f rest h s) refl))
 

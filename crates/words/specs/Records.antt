@@ -118,10 +118,10 @@ abbrev pub following : ℕ → ℕ → List ℕ → Result (List ℕ × List ℕ
 following n place ws =
     cond (nat_le n (length ws)) (and_then (plain place (take n ws)) (λ _. Ok (take n ws, drop n ws))) (Err (Ended (place + length ws)))
 
--- what an opening word at this place and the plain words after it say
+-- what an opening word and the plain words after it, which stand at this place, say
 abbrev pub saying_by : Kind → ℕ → ℕ → List ℕ → Said
 saying_by Machine number place f = machine number (slice_index f 0) (slice_index f 1) (slice_index f 2)
-saying_by Regions number place f = regions (place + 1) f
+saying_by Regions number place f = regions place f
 saying_by Task number place f = task number (slice_index f 0)
 saying_by Channel number place f = channel number (slice_index f 0)
 saying_by Exec number place f = exec number (slice_index f 0)
@@ -133,7 +133,7 @@ saying o place f = saying_by o.kind o.number place f
 
 -- the rest of a record behind its opening word, which stands at this place
 abbrev pub filled : Opening → ℕ → List ℕ → Result (Said × List ℕ) Fault
-filled o place ws = and_then (following (width o) (place + 1) ws) (λ f. Ok (saying o place f.0, f.1))
+filled o place ws = and_then (following (width o) (place + 1) ws) (λ f. Ok (saying o (place + 1) f.0, f.1))
 
 -- the first record of the words, which stand at this place, and the words after it
 abbrev pub record_at : List Kind → ℕ → List ℕ → Result (Said × List ℕ) Fault

@@ -1,13 +1,16 @@
 // Words kept as bytes: four bytes a word, the most significant first.
-ghost use Rattle.std.specs.Prelude.{◌≡◌};
+ghost use Rattle.std.specs.Prelude.{◌≡◌, Some};
 ghost use Rattle.words.specs.declared.bytes.BytesError.TheVariants.{NoMemory};
 ghost use Rattle.words.specs.Bytes.{Read, Written};
+ghost use Rattle.words.specs.Texts.{bytes_text};
 
 use crate::fault::Fault;
 use std::alloc::{AllocError, AllocFailed, Global};
+use std::error::Error;
+use std::fmt;
 
 // Why bytes give no words.
-#[derive(Clone, Copy)]
+#[derive(Clone, Copy, Debug, PartialEq, Eq)]
 pub enum BytesError {
     NoMemory,
     Cut(Fault),
@@ -29,21 +32,33 @@ impl<T: Drop> From<AllocFailed<T>> for BytesError {
     }
 }
 
+impl fmt::Display for BytesError {
+    ghost output = { λ x. Some (bytes_text x) };
+
+    fn fmt<W: fmt::Write>(&self, f: &mut fmt::Formatter<W>) -> fmt::Result {
+        match self {
+            BytesError::NoMemory => f.write_str("out of memory"),
+            BytesError::Cut(fault) => write!(f, "{fault}"),
+        }
+    }
+}
+
+impl Error for BytesError {}
+
 // The words in a file. One whose bytes are not whole words is refused before anything else.
 pub fn from_bytes(heap: Global, bytes: &[u8]) -> Result<Vec<u32>, BytesError>
     ensures { Read bytes.now result }
 {
-    if bytes.len() % 4 != 0 {
+    let (whole, []) = bytes.as_chunks::<4>() else {
         let place = bytes.len() / 4;
         return Err(BytesError::Cut(Fault::Ended { place }));
-    }
-    let mut words = Vec::new(heap);
-    let mut left = bytes;
-    while let [a, b, c, d, rest @ ..] = left {
-        words.push(u32::from_be_bytes([*a, *b, *c, *d]))?;
-        left = rest;
-    }
-    Ok(words)
+    };
+    Ok(
+        whole
+            .iter()
+            .map(|four| u32::from_be_bytes(*four))
+            .collect(heap)?,
+    )
 }
 
 // The words as a file has them.

@@ -1,6 +1,10 @@
 // Why a file is refused.
-ghost use Rattle.std.specs.Prelude.{◌≡◌};
+ghost use Rattle.std.specs.Prelude.{◌≡◌, Some};
 ghost use Rattle.words.specs.Shown.{shown};
+ghost use Rattle.words.specs.Texts.{layer_of, refusal_text, fault_text};
+
+use std::error::Error;
+use std::fmt;
 
 // The layer that found a fault.
 #[derive(Clone, Copy, Debug, PartialEq, Eq)]
@@ -11,6 +15,19 @@ pub enum Layer {
     Bench,
 }
 
+impl fmt::Display for Layer {
+    ghost output = { λ x. Some (layer_of x) };
+
+    fn fmt<W: fmt::Write>(&self, f: &mut fmt::Formatter<W>) -> fmt::Result {
+        f.write_str(match self {
+            Layer::Words => "words",
+            Layer::Records => "records",
+            Layer::Sheet => "sheet",
+            Layer::Bench => "bench",
+        })
+    }
+}
+
 // A refusal as it is told: its number, the layer that found it, and the place of the word that is to blame.
 #[derive(Clone, Copy, Debug, PartialEq, Eq)]
 pub struct Refusal {
@@ -19,8 +36,21 @@ pub struct Refusal {
     pub place: usize,
 }
 
+impl fmt::Display for Refusal {
+    ghost output = { λ x. Some (refusal_text x) };
+
+    fn fmt<W: fmt::Write>(&self, f: &mut fmt::Formatter<W>) -> fmt::Result {
+        let Refusal {
+            number,
+            layer,
+            place,
+        } = *self;
+        write!(f, "{number} in {layer} at {place}")
+    }
+}
+
 // What can be wrong with words, whatever they are to say.
-#[derive(Clone, Copy)]
+#[derive(Clone, Copy, Debug, PartialEq, Eq)]
 pub enum Fault {
     // The file ended where a word was due.
     Ended { place: usize },
@@ -43,3 +73,16 @@ impl Fault {
         }
     }
 }
+
+impl fmt::Display for Fault {
+    ghost output = { λ x. Some (fault_text x) };
+
+    fn fmt<W: fmt::Write>(&self, f: &mut fmt::Formatter<W>) -> fmt::Result {
+        f.write_str(match self {
+            Fault::Ended { .. } => "the file ends where a word is due",
+            Fault::Misplaced { .. } => "a word of this kind may not stand here",
+        })
+    }
+}
+
+impl Error for Fault {}

@@ -1,9 +1,12 @@
 // A word taken apart: its top three bits are its kind, the other 29 its number.
-ghost use Rattle.std.specs.Prelude.{◌≡◌};
-ghost use Rattle.words.specs.Kinds.{code, kind_of, opening_of};
+ghost use Rattle.std.specs.Prelude.{◌≡◌, Some};
+ghost use Rattle.words.specs.Kinds.{Decodes, opening_of};
+ghost use Rattle.words.specs.Texts.{kind_text};
+
+use std::fmt;
 
 // The kinds that open a record. A word of kind 0 is plain: it belongs to the record before it.
-#[derive(Clone, Copy)]
+#[derive(Clone, Copy, Debug, PartialEq, Eq)]
 pub enum Kind {
     Machine = 1,
     Regions = 2,
@@ -14,33 +17,47 @@ pub enum Kind {
     End = 7,
 }
 
-impl Kind {
-    // The kind as a file has it, 1 to 7.
-    pub(crate) fn code(self) -> u32
-        ensures { result ≡ code self }
-    {
-        self as u32
-    }
+// A number that no kind has.
+#[derive(Clone, Copy, Debug, PartialEq, Eq)]
+pub struct NoKind(pub u32);
 
-    // The kind with this number, or none.
-    pub(crate) fn of(code: u32) -> Option<Kind>
-        ensures { result ≡ kind_of code }
-    {
-        match code {
-            1 => Some(Kind::Machine),
-            2 => Some(Kind::Regions),
-            3 => Some(Kind::Task),
-            4 => Some(Kind::Channel),
-            5 => Some(Kind::Exec),
-            6 => Some(Kind::Transfer),
-            7 => Some(Kind::End),
-            _ => None,
+impl TryFrom<u32> for Kind {
+    type Error = NoKind;
+
+    ghost try_from_gives = { Decodes };
+
+    fn try_from(number: u32) -> Result<Kind, NoKind> {
+        match number {
+            1 => Ok(Kind::Machine),
+            2 => Ok(Kind::Regions),
+            3 => Ok(Kind::Task),
+            4 => Ok(Kind::Channel),
+            5 => Ok(Kind::Exec),
+            6 => Ok(Kind::Transfer),
+            7 => Ok(Kind::End),
+            _ => Err(NoKind(number)),
         }
     }
 }
 
+impl fmt::Display for Kind {
+    ghost output = { λ k. Some (kind_text k) };
+
+    fn fmt<W: fmt::Write>(&self, f: &mut fmt::Formatter<W>) -> fmt::Result {
+        f.write_str(match self {
+            Kind::Machine => "a machine",
+            Kind::Regions => "regions",
+            Kind::Task => "a task",
+            Kind::Channel => "a channel",
+            Kind::Exec => "an exec",
+            Kind::Transfer => "a transfer",
+            Kind::End => "an end",
+        })
+    }
+}
+
 // A word that opens a record.
-#[derive(Clone, Copy)]
+#[derive(Clone, Copy, Debug, PartialEq, Eq)]
 pub struct Opening {
     pub kind: Kind,
     pub number: u32,
@@ -51,12 +68,10 @@ impl Opening {
     pub fn of(word: u32) -> Option<Opening>
         ensures { result ≡ opening_of word }
     {
-        match Kind::of(word >> 29) {
-            Some(kind) => Some(Opening {
-                kind,
-                number: word & 0x1fff_ffff,
-            }),
-            None => None,
-        }
+        let kind = Kind::try_from(word >> 29).ok()?;
+        Some(Opening {
+            kind,
+            number: word & 0x1fff_ffff,
+        })
     }
 }

@@ -10,6 +10,6 @@ mod take;
 
 pub use bytes::{BytesError, from_bytes, to_bytes};
 pub use fault::{Fault, Layer, Refusal};
-pub use kind::{Kind, Opening};
+pub use kind::{Kind, NoKind, Opening};
 pub use reader::Reader;
 pub use record::Record;

@@ -2,7 +2,7 @@
 
 // What the words of a record say. Nothing is checked but that they are there and of their kinds.
 // The region sizes are the words of the file themselves, lent, with the place of the first.
-#[derive(Clone, Copy)]
+#[derive(Clone, Copy, Debug, PartialEq, Eq)]
 pub enum Record<'a> {
     Machine {
         cores: u32,
