@@ -41,28 +41,28 @@ run_note (b ∷ bs) i h =
 digit_inside : (b d : ℕ) → digit b ≡ Some d → ends b ≡ false
 digit_inside b d h = grind (arith, nat_tests)
 
-first_step : (i b : ℕ) → ends b ≡ false → step i Between b ≡ step i (Digits i 0 0) b
+first_step : (i b : ℕ) → ends b ≡ false → step i Between b ≡ step i (Digits (i, 0, 0)) b
 first_step i b h = grind (arith, nat_tests)
 
-step_digit : (i start count v b d : ℕ) → digit b ≡ Some d → count < 8 → step i (Digits start count v) b ≡ Digits start (count + 1) (v * 16 + d)
+step_digit : (i start count v b d : ℕ) → digit b ≡ Some d → count < 8 → step i (Digits (start, count, v)) b ≡ Digits (start, count + 1, v * 16 + d)
 step_digit i start count v b d h l = let e = digit_inside b d h in grind (arith, nat_tests)
 
-step_none : (i start count v b : ℕ) → digit b ≡ None → ends b ≡ false → step i (Digits start count v) b ≡ Bad start
+step_none : (i start count v b : ℕ) → digit b ≡ None → ends b ≡ false → step i (Digits (start, count, v)) b ≡ Bad start
 step_none i start count v b h e = grind (arith, nat_tests)
 
-step_full : (i start count v b d : ℕ) → digit b ≡ Some d → 8 ≤ count → step i (Digits start count v) b ≡ Bad start
+step_full : (i start count v b d : ℕ) → digit b ≡ Some d → 8 ≤ count → step i (Digits (start, count, v)) b ≡ Bad start
 step_full i start count v b d h l = let e = digit_inside b d h in grind (arith, nat_tests)
 
 -- what follows a word is read as if none were before it
-step_ends : (i start v b : ℕ) → ends b ≡ true → step i (Digits start 8 v) b ≡ opened i b
+step_ends : (i start v b : ℕ) → ends b ≡ true → step i (Digits (start, 8, v)) b ≡ opened i b
 step_ends i start v b h = cond-true (ends b) (opened i b) (grown start 8 v b) h
 
 -- eight digits, after some of them
-run_token : (bs : List ℕ) (i start count v w : ℕ) → value v bs ≡ Some w → count + length bs ≡ 8 → run i (Digits start count v) bs ≡ Digits start 8 w
+run_token : (bs : List ℕ) (i start count v w : ℕ) → value v bs ≡ Some w → count + length bs ≡ 8 → run i (Digits (start, count, v)) bs ≡ Digits (start, 8, w)
 run_token [] i start count v w h l = let e : count ≡ 8 = omega arith in cc
 run_token (b ∷ bs) i start count v w h l =
     let f : ℕ → Option ℕ = λ d. value (v * 16 + d) bs in
-    elim (digit b) as (λ o. digit b ≡ o → run i (Digits start count v) (b ∷ bs) ≡ Digits start 8 w) [
+    elim (digit b) as (λ o. digit b ≡ o → run i (Digits (start, count, v)) (b ∷ bs) ≡ Digits (start, 8, w)) [
       | None ↦ λ e. let no : ◌≡◌ {A = ℕ} 0 1 = let n = sym (ap (λ o. on_some o f) e) ∙ h in cc in absurd (let z : ⊥ = omega arith in z)
       | Some d ↦ λ e.
           let s = step_digit i start count v b d e (omega arith) in
@@ -70,13 +70,13 @@ run_token (b ∷ bs) i start count v w h l =
           ap (λ s. run (i + 1) s bs) s ∙ run_token bs (i + 1) start (count + 1) (v * 16 + d) w n (omega arith)
     ] refl
 
-shed_token : (bs : List ℕ) (i start count v w : ℕ) → value v bs ≡ Some w → count + length bs ≡ 8 → option_to_list (hex.word (Digits start count v)) ++ shed i (Digits start count v) bs ≡ w ∷ []
+shed_token : (bs : List ℕ) (i start count v w : ℕ) → value v bs ≡ Some w → count + length bs ≡ 8 → option_to_list (hex.word (Digits (start, count, v))) ++ shed i (Digits (start, count, v)) bs ≡ w ∷ []
 shed_token [] i start count v w h l = let e : count ≡ 8 = omega arith in rw e (let q : v ≡ w = cc in ap (λ x. x ∷ []) q)
 shed_token (b ∷ bs) i start count v w h l =
     let f : ℕ → Option ℕ = λ d. value (v * 16 + d) bs in
-    let out : hex.word (Digits start count v) ≡ None = grind (arith, nat_tests) in
-    ap (λ o. option_to_list o ++ shed i (Digits start count v) (b ∷ bs)) out ∙
-    elim (digit b) as (λ o. digit b ≡ o → shed i (Digits start count v) (b ∷ bs) ≡ w ∷ []) [
+    let out : hex.word (Digits (start, count, v)) ≡ None = grind (arith, nat_tests) in
+    ap (λ o. option_to_list o ++ shed i (Digits (start, count, v)) (b ∷ bs)) out ∙
+    elim (digit b) as (λ o. digit b ≡ o → shed i (Digits (start, count, v)) (b ∷ bs) ≡ w ∷ []) [
       | None ↦ λ e. let no : ◌≡◌ {A = ℕ} 0 1 = let n = sym (ap (λ o. on_some o f) e) ∙ h in cc in absurd (let z : ⊥ = omega arith in z)
       | Some d ↦ λ e.
           let s = step_digit i start count v b d e (omega arith) in
@@ -99,7 +99,7 @@ value_first b bs v w h =
       | Some d ↦ λ e. digit_inside b d e
     ] refl
 
-run_word : (bs : List ℕ) (i w : ℕ) → token bs ≡ Some w → (run i Between bs ≡ Digits i 8 w) × (shed i Between bs ≡ w ∷ [])
+run_word : (bs : List ℕ) (i w : ℕ) → token bs ≡ Some w → (run i Between bs ≡ Digits (i, 8, w)) × (shed i Between bs ≡ w ∷ [])
 run_word [] i w h = let no : ◌≡◌ {A = ℕ} 0 1 = cc in absurd (let z : ⊥ = omega arith in z)
 run_word (b ∷ bs) i w h =
     let t = token_parts (b ∷ bs) w h in
@@ -115,7 +115,7 @@ run_gap (space b) i h =
     (e, ap (λ s. option_to_list (hex.word s) ++ []) e)
 run_gap (note bs) i h = run_note bs (i + 1) h
 
-run_behind : (g : Gap) (i start w : ℕ) → GoodGap g → (run i (Digits start 8 w) (gap_text g) ≡ Between) × (shed i (Digits start 8 w) (gap_text g) ≡ [])
+run_behind : (g : Gap) (i start w : ℕ) → GoodGap g → (run i (Digits (start, 8, w)) (gap_text g) ≡ Between) × (shed i (Digits (start, 8, w)) (gap_text g) ≡ [])
 run_behind (space b) i start w h =
     let s = step_ends i start w b (or_left (blank b) (eqb b 35) h) in
     let r = run_gap (space b) i h in
@@ -133,7 +133,7 @@ run_piece (word bs g) i h =
     let c = run_behind g j i w h.1 in (
       run_append bs (gap_text g) i Between ∙ ap (λ s. run j s (gap_text g)) r.0 ∙ c.0,
       shed_append bs (gap_text g) i Between ∙ ap (λ s. shed i Between bs ++ shed j s (gap_text g)) r.0
-          ∙ ap (λ xs. xs ++ shed j (Digits i 8 w) (gap_text g)) r.1 ∙ ap (λ xs. w ∷ xs) c.1 ∙ sym (ap option_to_list t.1),
+          ∙ ap (λ xs. xs ++ shed j (Digits (i, 8, w)) (gap_text g)) r.1 ∙ ap (λ xs. w ∷ xs) c.1 ∙ sym (ap option_to_list t.1),
     )
 
 run_pieces : (ps : List Piece) (i : ℕ) → AllByRecursion Good ps → (run i Between (flat_map piece_text ps) ≡ Between) × (shed i Between (flat_map piece_text ps) ≡ flat_map piece_words ps)
@@ -163,7 +163,7 @@ rest_between (b ∷ bs) i h =
     let r = run_remark bs (i + 1) h.1 in
     rw h.0 (ap bad r.0, r.1)
 
-rest_word : (rest : List ℕ) (i start w : ℕ) → Remark rest → (bad (run i (Digits start 8 w) rest) ≡ None) × (shed i (Digits start 8 w) rest ≡ [])
+rest_word : (rest : List ℕ) (i start w : ℕ) → Remark rest → (bad (run i (Digits (start, 8, w)) rest) ≡ None) × (shed i (Digits (start, 8, w)) rest ≡ [])
 rest_word [] i start w h = (refl, refl)
 rest_word (b ∷ bs) i start w h =
     let r = run_remark bs (i + 1) h.1 in
@@ -180,7 +180,7 @@ run_last (b ∷ bs) rest i l h =
     let c = rest_word rest j i w h in (
       ap bad (run_append last rest i Between ∙ ap (λ s. run j s rest) r.0) ∙ c.0,
       shed_append last rest i Between ∙ ap (λ s. shed i Between last ++ shed j s rest) r.0
-          ∙ ap (λ xs. xs ++ shed j (Digits i 8 w) rest) r.1 ∙ ap (λ xs. w ∷ xs) c.1 ∙ sym (ap option_to_list t.1),
+          ∙ ap (λ xs. xs ++ shed j (Digits (i, 8, w)) rest) r.1 ∙ ap (λ xs. w ∷ xs) c.1 ∙ sym (ap option_to_list t.1),
     )
 
 pub pieces_read : PiecesRead
@@ -200,11 +200,11 @@ run_bad : (bs : List ℕ) (i start : ℕ) → run i (Bad start) bs ≡ Bad start
 run_bad [] i start = refl
 run_bad (b ∷ bs) i start = run_bad bs (i + 1) start
 
-stuck : (bs : List ℕ) (i start count v : ℕ) → AllByRecursion (λ x. ends x ≡ false) bs → count ≤ 8 → ((w : ℕ) → value v bs ≡ Some w → count + length bs ≡ 8 → ⊥) → bad (run i (Digits start count v) bs) ≡ Some start
+stuck : (bs : List ℕ) (i start count v : ℕ) → AllByRecursion (λ x. ends x ≡ false) bs → count ≤ 8 → ((w : ℕ) → value v bs ≡ Some w → count + length bs ≡ 8 → ⊥) → bad (run i (Digits (start, count, v)) bs) ≡ Some start
 stuck [] i start count v h l n = cond-false (eqb count 8) None (Some start) (ne_eqb count 8 (λ e. n v refl (omega arith)))
 stuck (b ∷ bs) i start count v h l n =
     let f : ℕ → Option ℕ = λ d. value (v * 16 + d) bs in
-    elim (digit b) as (λ o. digit b ≡ o → bad (run i (Digits start count v) (b ∷ bs)) ≡ Some start) [
+    elim (digit b) as (λ o. digit b ≡ o → bad (run i (Digits (start, count, v)) (b ∷ bs)) ≡ Some start) [
       | None ↦ λ e. ap (λ s. bad (run (i + 1) s bs)) (step_none i start count v b e h.0) ∙ ap bad (run_bad bs (i + 1) start)
       | Some d ↦ λ e.
           elim (cases_lt count 8) [
@@ -218,8 +218,8 @@ closed : (rest : List ℕ) (j start : ℕ) (s : State) → bad s ≡ Some start 
 closed [] j start s h c = h
 closed (b ∷ bs) j start Between h c = let no : ◌≡◌ {A = ℕ} 0 1 = cc in absurd (let z : ⊥ = omega arith in z)
 closed (b ∷ bs) j start Comment h c = let no : ◌≡◌ {A = ℕ} 0 1 = cc in absurd (let z : ⊥ = omega arith in z)
-closed (b ∷ bs) j start (Digits first count v) h c =
-    let e : step j (Digits first count v) b ≡ Bad start = grind (arith, nat_tests) in
+closed (b ∷ bs) j start (Digits (first, count, v)) h c =
+    let e : step j (Digits (first, count, v)) b ≡ Bad start = grind (arith, nat_tests) in
     ap (λ s. bad (run (j + 1) s bs)) e ∙ ap bad (run_bad bs (j + 1) start)
 closed (b ∷ bs) j start (Bad first) h c = ap bad (run_bad bs (j + 1) first) ∙ h
 

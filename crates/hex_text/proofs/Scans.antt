@@ -1,13 +1,14 @@
 -- The states of a reader of text. Assumes nothing.
-use Rattle.std.proofs.Common.{◌≡◌, ℕ, ◌+◌, ◌^◌, ◌<◌, ◌≤◌, ◌&&◌, ◌||◌, eqb, ltb, leb, List, ◌++◌, length, get_or, drop, IfSome, Some, None, Option, sym, ap, ◌∙◌, subst, pow-suc, add-one, arith}
+use Rattle.std.proofs.Common.{◌≡◌, ℕ, ◌+◌, ◌^◌, ◌<◌, ◌≤◌, ◌&&◌, ◌||◌, eqb, ltb, leb, List, [], ◌∷◌, ◌++◌, length, get_or, take, drop, IfSome, Some, None, Option, sym, refl, ap, ◌∙◌, subst, arith}
 use native.Mathlib.Nat.{pow-le-pow_right}
-use Rattle.std.proofs.lemmas.List.{append_assoc, at_drop_more}
+use Rattle.std.proofs.lemmas.List.{append_assoc, at_drop_more, length-take-le}
 use Rattle.std.proofs.lemmas.Bool.{cond_both}
 use Rattle.std.proofs.lemmas.Bool.Decides.{nat_tests}
 use Rattle.std.specs.Option.{option_to_list}
+use Rattle.std.specs.List.{fold, enumerate_from}
 use Rattle.hex_text.specs.declared.State.{State}
 use Rattle.hex_text.specs.declared.State.TheVariants.{Between, Comment, Digits, Bad}
-use Rattle.hex_text.specs.Scan.{digit, blank, grown_by, grown, opened, step, run, word, shed, Sound}
+use Rattle.hex_text.specs.Scan.{digit, blank, grown_by, opened, step, run, word, shed, bad}
 
 pub digit_below : (b : ℕ) → IfSome (digit b) (λ d. d < 16)
 digit_below b =
@@ -26,40 +27,61 @@ room count value c h =
     let p : 16 ^ count ≤ 16 ^ 7 = pow-le-pow_right (omega arith) few in
     omega arith
 
-grown_by_sound : (j start count value : ℕ) (o : Option ℕ) → start < j → value < 16 ^ count → IfSome o (λ d. d < 16) → Sound j (grown_by start count value o)
-grown_by_sound j start count value None l v h = l
-grown_by_sound j start count value (Some d) l v h =
-    cond_both (ltb count 8) _ _ (Sound j) (λ _. (l, let e = ap (λ n. 16 ^ n) (add-one count) ∙ pow-suc 16 count in omega arith)) (λ _. l)
+-- what a state may be after i bytes: a token begins before them
+abbrev pub Sound : ℕ → State → Type 0
+Sound i Between = Unit {0}
+Sound i Comment = Unit {0}
+Sound i (Digits (start, count, value)) = start < i
+Sound i (Bad start) = start < i
 
-pub grown_sound : (j start count value b : ℕ) → start < j → value < 16 ^ count → Sound j (grown start count value b)
-grown_sound j start count value b l v = grown_by_sound j start count value (digit b) l v (digit_below b)
+grown_by_sound : (j start count value : ℕ) (o : Option ℕ) → start < j → Sound j (grown_by start count value o)
+grown_by_sound j start count value None l = l
+grown_by_sound j start count value (Some d) l = cond_both (ltb count 8) _ _ (Sound j) (λ _. l) (λ _. l)
 
-pub opened_sound : (i b : ℕ) → Sound (i + 1) (opened i b)
+opened_sound : (i b : ℕ) → Sound (i + 1) (opened i b)
 opened_sound i b =
     cond_both (blank b) _ _ (Sound (i + 1)) (λ _. tt) (λ _.
-    cond_both (eqb b 35) _ _ (Sound (i + 1)) (λ _. tt) (λ _. grown_sound (i + 1) i 0 0 b (omega arith) (omega arith)))
+    cond_both (eqb b 35) _ _ (Sound (i + 1)) (λ _. tt) (λ _. grown_by_sound (i + 1) i 0 0 (digit b) (omega arith)))
 
-pub step_sound : (i : ℕ) (s : State) (b : ℕ) → Sound i s → Sound (i + 1) (step i s b)
+step_sound : (i : ℕ) (s : State) (b : ℕ) → Sound i s → Sound (i + 1) (step i s b)
 step_sound i Between b h = opened_sound i b
 step_sound i Comment b h = cond_both (eqb b 10) _ _ (Sound (i + 1)) (λ _. tt) (λ _. tt)
-step_sound i (Digits start count value) b h =
+step_sound i (Digits (start, count, value)) b h =
     let l : start < i + 1 = omega arith in
     cond_both (blank b || eqb b 35) _ _ (Sound (i + 1))
     (λ _. cond_both (eqb count 8) _ _ (Sound (i + 1)) (λ _. opened_sound i b) (λ _. l))
-    (λ _. grown_sound (i + 1) start count value b l h.1)
+    (λ _. grown_by_sound (i + 1) start count value (digit b) l)
 step_sound i (Bad start) b h = omega arith
 
--- ---- one turn of each loop over the text
-pub run_turn : (text : List ℕ) (i : ℕ) (s t : State) → i < length text → t ≡ step i s (get_or text i 0)
-    → (run 0 Between text ≡ run i s (drop i text)) × Sound i s → (run 0 Between text ≡ run (i + 1) t (drop (i + 1) text)) × Sound (i + 1) t
-run_turn text i s t l e h =
-    let n : run i s (drop i text) ≡ run (i + 1) (step i s (get_or text i 0)) (drop (i + 1) text) = at_drop_more (run i s) text i 0 l in
-    (rw e (h.0 ∙ n), rw e (step_sound i s (get_or text i 0) h.1))
+run_sound : (i : ℕ) (s : State) (bs : List ℕ) → Sound i s → Sound (i + length bs) (run i s bs)
+run_sound i s [] h = subst (λ (n : ℕ). Sound n s) (omega arith) h
+run_sound i s (b ∷ bs) h =
+    let r = run_sound (i + 1) (step i s b) bs (step_sound i s b h) in
+    let e : i + 1 + length bs ≡ i + length (b ∷ bs) = omega arith in
+    subst (λ (n : ℕ). Sound n (run (i + 1) (step i s b) bs)) e r
+
+bad_sound : (n : ℕ) (s : State) (start : ℕ) → Sound n s → Some start ≡ bad s → start < n
+bad_sound n Between start h e = let no : ◌≡◌ {A = ℕ} 0 1 = cc in omega arith
+bad_sound n Comment start h e = let no : ◌≡◌ {A = ℕ} 0 1 = cc in omega arith
+bad_sound n (Digits (first, count, value)) start h e = grind (arith, nat_tests)
+bad_sound n (Bad first) start h e = grind arith
+
+-- a token that is no word begins in the text
+bad_inside : (text : List ℕ) (start : ℕ) → Some start ≡ bad (run 0 Between text) → start < length text
+bad_inside text start e = let h = bad_sound (0 + length text) (run 0 Between text) start (run_sound 0 Between text tt) e in omega arith
+
+pub front_length : (text : List ℕ) (start : ℕ) → Some start ≡ bad (run 0 Between text) → length (take start text) ≡ start
+front_length text start e = let l = bad_inside text start e in length-take-le start text (omega arith)
+
+-- ---- the loops over the text
+pub run_fold : (i : ℕ) (s : State) (bs : List ℕ) → fold (λ s p. step p.0 s p.1) s (enumerate_from i bs) ≡ run i s bs
+run_fold i s [] = refl
+run_fold i s (b ∷ bs) = run_fold (i + 1) (step i s b) bs
 
 pub shed_turn : (text ws vs : List ℕ) (i : ℕ) (s t : State) → i < length text → t ≡ step i s (get_or text i 0) → vs ≡ ws ++ option_to_list (word t)
-    → (shed 0 Between text ≡ ws ++ shed i s (drop i text)) × Sound i s → (shed 0 Between text ≡ vs ++ shed (i + 1) t (drop (i + 1) text)) × Sound (i + 1) t
+    → shed 0 Between text ≡ ws ++ shed i s (drop i text) → shed 0 Between text ≡ vs ++ shed (i + 1) t (drop (i + 1) text)
 shed_turn text ws vs i s t l e p h =
     let b : ℕ = get_or text i 0 in
     let n : shed i s (drop i text) ≡ option_to_list (word (step i s b)) ++ shed (i + 1) (step i s b) (drop (i + 1) text) = at_drop_more (shed i s) text i 0 l in
-    let q : shed 0 Between text ≡ ws ++ (option_to_list (word t) ++ shed (i + 1) t (drop (i + 1) text)) = rw e (h.0 ∙ ap (λ r. ws ++ r) n) in
-    (rw (p, append_assoc) q, rw e (step_sound i s b h.1))
+    let q : shed 0 Between text ≡ ws ++ (option_to_list (word t) ++ shed (i + 1) t (drop (i + 1) text)) = rw e (h ∙ ap (λ r. ws ++ r) n) in
+    rw (p, append_assoc) q

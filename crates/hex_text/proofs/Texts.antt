@@ -18,16 +18,16 @@ no_blank d h = cond_both (ltb d 10) (48 + d) (55 + d) (λ b. blank b ≡ false) 
 no_hash : (d : ℕ) → d < 16 → eqb (digit_of d) 35 ≡ false
 no_hash d h = cond_both (ltb d 10) (48 + d) (55 + d) (λ b. eqb b 35 ≡ false) (λ e. grind (arith, nat_tests)) (λ e. grind (arith, nat_tests))
 
-step_first : (i d : ℕ) → d < 16 → step i Between (digit_of d) ≡ Digits i 1 (0 * 16 + d)
+step_first : (i d : ℕ) → d < 16 → step i Between (digit_of d) ≡ Digits (i, 1, 0 * 16 + d)
 step_first i d h = let p = digit_again d h in let q = no_blank d h in let r = no_hash d h in grind arith
 
-step_next : (i start count v d : ℕ) → count < 8 → d < 16 → step i (Digits start count v) (digit_of d) ≡ Digits start (count + 1) (v * 16 + d)
+step_next : (i start count v d : ℕ) → count < 8 → d < 16 → step i (Digits (start, count, v)) (digit_of d) ≡ Digits (start, count + 1, v * 16 + d)
 step_next i start count v d l h = let p = digit_again d h in let q = no_blank d h in let r = no_hash d h in grind (arith, nat_tests)
 
-run_next : (i start count v d : ℕ) (bs : List ℕ) → count < 8 → d < 16 → run i (Digits start count v) (digit_of d ∷ bs) ≡ run (i + 1) (Digits start (count + 1) (v * 16 + d)) bs
+run_next : (i start count v d : ℕ) (bs : List ℕ) → count < 8 → d < 16 → run i (Digits (start, count, v)) (digit_of d ∷ bs) ≡ run (i + 1) (Digits (start, count + 1, v * 16 + d)) bs
 run_next i start count v d bs l h = ap (λ s. run (i + 1) s bs) (step_next i start count v d l h)
 
-shed_next : (i start count v d : ℕ) (bs : List ℕ) → count < 8 → d < 16 → shed i (Digits start count v) (digit_of d ∷ bs) ≡ option_to_list (word (Digits start (count + 1) (v * 16 + d))) ++ shed (i + 1) (Digits start (count + 1) (v * 16 + d)) bs
+shed_next : (i start count v d : ℕ) (bs : List ℕ) → count < 8 → d < 16 → shed i (Digits (start, count, v)) (digit_of d ∷ bs) ≡ option_to_list (word (Digits (start, count + 1, v * 16 + d))) ++ shed (i + 1) (Digits (start, count + 1, v * 16 + d)) bs
 shed_next i start count v d bs l h = ap (λ s. option_to_list (word s) ++ shed (i + 1) s bs) (step_next i start count v d l h)
 
 -- ---- a line is read as its word

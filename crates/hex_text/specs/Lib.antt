@@ -1,2 +1,3 @@
 pub mod Scan
 pub mod Pieces
+pub mod Texts

@@ -22,7 +22,7 @@ blank b = b == 32 || (b == 9 || (b == 13 || b == 10))
 -- a token of count digits, with one more digit or with a byte that is none
 abbrev pub grown_by : ℕ → ℕ → ℕ → Option ℕ → State
 grown_by start count value None = Bad start
-grown_by start count value (Some d) = cond (nat_lt count 8) (Digits start (count + 1) (value * 16 + d)) (Bad start)
+grown_by start count value (Some d) = cond (nat_lt count 8) (Digits (start, count + 1, value * 16 + d)) (Bad start)
 
 -- a token of count digits with one more byte
 abbrev pub grown : ℕ → ℕ → ℕ → ℕ → State
@@ -36,7 +36,7 @@ opened i b = cond (blank b) Between (cond (b == 35) Comment (grown i 0 0 b))
 abbrev pub step : ℕ → State → ℕ → State
 step i Between b = opened i b
 step i Comment b = cond (b == 10) Between Comment
-step i (Digits start count value) b =
+step i (Digits (start, count, value)) b =
     cond (blank b || b == 35) (cond (count == 8) (opened i b) (Bad start)) (grown start count value b)
 step i (Bad start) b = Bad start
 
@@ -49,7 +49,7 @@ run i s (b ∷ bs) = run (i + 1) (step i s b) bs
 abbrev pub word : State → Option ℕ
 word Between = None
 word Comment = None
-word (Digits start count value) = cond (count == 8) (Some value) None
+word (Digits (start, count, value)) = cond (count == 8) (Some value) None
 word (Bad start) = None
 
 -- the words that become whole in the bytes from place i on
@@ -61,7 +61,7 @@ shed i s (b ∷ bs) = option_to_list (word (step i s b)) ++ shed (i + 1) (step i
 abbrev pub bad : State → Option ℕ
 bad Between = None
 bad Comment = None
-bad (Digits start count value) = cond (count == 8) None (Some start)
+bad (Digits (start, count, value)) = cond (count == 8) None (Some start)
 bad (Bad start) = Some start
 
 -- the line and the column behind these bytes, which begin at this line and column
@@ -83,13 +83,6 @@ abbrev pub Heard : List ℕ → Result (Vec ℕ Global) HexError → Type 0
 Heard text (Ok v) = words_in_text text ≡ Ok (vec_items v)
 Heard text (Err NoMemory) = is_ok (words_in_text text) ≡ true
 Heard text (Err (Token line column)) = words_in_text text ≡ Err (line, column)
-
--- what a state may be after i bytes: a token begins before them, and its value fits its digits
-abbrev pub Sound : ℕ → State → Type 0
-Sound i Between = Unit {0}
-Sound i Comment = Unit {0}
-Sound i (Digits start count value) = (start < i) × (value < 16 ^ count)
-Sound i (Bad start) = start < i
 
 -- ---- words written as text
 -- the upper-case digit of a number below 16

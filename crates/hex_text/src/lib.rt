@@ -1,19 +1,23 @@
 // Words as text: eight hexadecimal digits a word, blanks and line feeds between words, comments from '#' to the line feed.
 #![tactic(auto)]
 
-ghost use Rattle.std.specs.Prelude.{◌≡◌, ◌+◌, ◌^◌, ◌<◌, length, IfOk};
+ghost use Rattle.std.specs.Prelude.{◌≡◌, ◌+◌, ◌^◌, ◌<◌, Some, length, IfOk};
 ghost use Rattle.hex_text.specs.declared.HexError.TheVariants.{NoMemory};
 ghost use Rattle.hex_text.specs.declared.State.TheVariants.{Between};
-ghost use Rattle.hex_text.specs.Scan.{digit, blank, grown, opened, step, run, word, shed, bad, spot, Sound, Heard, ReadBack};
+ghost use Rattle.hex_text.specs.Scan.{digit, blank, grown, opened, step, run, word, shed, bad, spot, Heard, ReadBack};
 ghost use Rattle.hex_text.specs.Pieces.{PiecesRead, TokenRefused};
+ghost use Rattle.hex_text.specs.Texts.{error_text};
 
 use std::alloc::{AllocError, Global};
+use std::error::Error;
+use std::fmt;
+use std::marker::Model;
 
 // How many digits a word has.
 const DIGITS: u32 = 8;
 
 // Why a text gives no words: no memory, or a token that is no word, by the line and the column of its first byte.
-#[derive(Clone, Copy)]
+#[derive(Clone, Copy, Debug, PartialEq, Eq)]
 pub enum HexError {
     NoMemory,
     Token { line: usize, column: usize },
@@ -27,135 +31,166 @@ impl From<AllocError> for HexError {
     }
 }
 
-// What a reader of text is in.
-#[derive(Clone, Copy)]
-enum State {
-    Between,
-    Comment,
-    // A token, all digits so far. It begins at the byte `start`.
-    Digits {
-        start: usize,
-        count: u32,
-        value: u32,
-    },
-    // A token that is no word. Nothing after it counts.
-    Bad {
-        start: usize,
-    },
-}
+impl fmt::Display for HexError {
+    ghost output = { λ x. Some (error_text x) };
 
-fn digit(byte: u8) -> Option<u32>
-    ensures { result ≡ digit byte }
-{
-    match byte {
-        b'0'..=b'9' => Some(u32::from(byte - b'0')),
-        b'A'..=b'F' => Some(u32::from(byte - b'A' + 10)),
-        b'a'..=b'f' => Some(u32::from(byte - b'a' + 10)),
-        _ => None,
-    }
-}
-
-fn blank(byte: u8) -> bool
-    ensures { result ≡ blank byte }
-{
-    byte == b' ' || byte == b'\t' || byte == b'\r' || byte == b'\n'
-}
-
-// A token with one more byte.
-fn grown(start: usize, count: u32, value: u32, byte: u8) -> State
-    requires { value < 16 ^ count }
-    ensures { result ≡ grown start count value byte }
-{
-    match digit(byte) {
-        Some(d) if count < DIGITS => State::Digits {
-            start,
-            count: count + 1,
-            value: value * 16 + d,
-        },
-        _ => State::Bad { start },
-    }
-}
-
-// What a byte begins where no token is open.
-fn opened(i: usize, byte: u8) -> State
-    ensures { result ≡ opened i byte }
-{
-    if blank(byte) {
-        State::Between
-    } else if byte == b'#' {
-        State::Comment
-    } else {
-        grown(i, 0, 0, byte)
-    }
-}
-
-// The state after one more byte, the one at place `i`.
-fn step(i: usize, state: State, byte: u8) -> State
-    requires { Sound i state }
-    ensures { result ≡ step i state byte }
-{
-    match state {
-        State::Between => opened(i, byte),
-        State::Comment if byte == b'\n' => State::Between,
-        State::Comment | State::Bad { .. } => state,
-        State::Digits {
-            start,
-            count,
-            value,
-        } => {
-            if !blank(byte) && byte != b'#' {
-                grown(start, count, value, byte)
-            } else if count == DIGITS {
-                opened(i, byte)
-            } else {
-                State::Bad { start }
+    fn fmt<W: fmt::Write>(&self, f: &mut fmt::Formatter<W>) -> fmt::Result {
+        match self {
+            HexError::NoMemory => f.write_str("out of memory"),
+            HexError::Token { line, column } => {
+                write!(
+                    f,
+                    "line {line}, column {column}: a word is eight hexadecimal digits"
+                )
             }
         }
     }
 }
 
-// The word that is whole in this state.
-fn word(state: State) -> Option<u32>
-    ensures { result ≡ word state }
-{
-    match state {
-        State::Digits { count, value, .. } if count == DIGITS => Some(value),
-        _ => None,
+impl Error for HexError {}
+
+// A token whose bytes so far are digits: the byte where it begins, how many they are, and their value.
+#[derive(Drop)]
+struct Token {
+    start: usize,
+    count: u32,
+    value: u32,
+}
+
+impl Model for Token {
+    ghost use Rattle.std.specs.Prelude.{ℕ, ◌^◌, ◌<◌};
+
+    ghost Value = { ℕ × ℕ × ℕ };
+
+    ghost view = { λ t. (t.start, t.count, t.value) };
+
+    ghost invariant = { λ t. t.value < 16 ^ t.count };
+}
+
+impl Token {
+    // It with one more byte.
+    fn grown(self, byte: u8) -> State
+        ensures { result ≡ grown self.0 self.1 self.2 byte }
+    {
+        let Token {
+            start,
+            count,
+            value,
+        } = self;
+        match digit(byte) {
+            Some(d) if count < DIGITS => State::Digits(Token {
+                start,
+                count: count + 1,
+                value: value * 16 + d,
+            }),
+            _ => State::Bad { start },
+        }
     }
 }
 
-// Where the token begins that is no word, if the text ends in this state.
-fn bad(state: State) -> Option<usize>
-    ensures { result ≡ bad state }
-{
-    match state {
-        State::Digits { start, count, .. } if count != DIGITS => Some(start),
-        State::Bad { start } => Some(start),
-        _ => None,
+// What a reader of text is in.
+#[derive(Drop)]
+enum State {
+    Between,
+    Comment,
+    Digits(Token),
+    // A token that is no word. Nothing after it counts.
+    Bad { start: usize },
+}
+
+impl State {
+    // What the byte at place `i` begins where no token is open.
+    fn opened(i: usize, byte: u8) -> State
+        ensures { result ≡ opened i byte }
+    {
+        if blank(byte) {
+            State::Between
+        } else if byte == b'#' {
+            State::Comment
+        } else {
+            let token = Token {
+                start: i,
+                count: 0,
+                value: 0,
+            };
+            token.grown(byte)
+        }
+    }
+
+    // The state after one more byte, the one at place `i`.
+    fn after(self, i: usize, byte: u8) -> State
+        ensures { result ≡ step i self byte }
+    {
+        match self {
+            State::Between => State::opened(i, byte),
+            State::Comment if byte == b'\n' => State::Between,
+            State::Comment => State::Comment,
+            State::Digits(token) => {
+                if !blank(byte) && byte != b'#' {
+                    token.grown(byte)
+                } else if token.count == DIGITS {
+                    State::opened(i, byte)
+                } else {
+                    State::Bad { start: token.start }
+                }
+            }
+            State::Bad { start } => State::Bad { start },
+        }
+    }
+
+    // The word that is whole in this state.
+    fn word(&self) -> Option<u32>
+        ensures { result ≡ word self.now }
+    {
+        match self {
+            State::Digits(token) if token.count == DIGITS => Some(token.value),
+            _ => None,
+        }
+    }
+
+    // Where the token begins that is no word, if the text ends in this state.
+    fn bad(&self) -> Option<usize>
+        ensures { result ≡ bad self.now }
+    {
+        match self {
+            State::Digits(token) if token.count != DIGITS => Some(token.start),
+            State::Bad { start } => Some(*start),
+            _ => None,
+        }
     }
 }
 
-// The state at the end of a text. A token before that end begins at a byte of the text.
+// The value of a hexadecimal digit.
+fn digit(byte: u8) -> Option<u32>
+    ensures { result ≡ digit byte }
+{
+    char::from(byte).to_digit(16)
+}
+
+fn blank(byte: u8) -> bool
+    ensures { result ≡ blank byte }
+{
+    matches!(byte, b' ' | b'\t' | b'\r' | b'\n')
+}
+
+// The state at the end of a text.
 fn run(text: &[u8]) -> State
-    ensures value { result ≡ run 0 Between text.now }
-    ensures sound { Sound (length text.now) result }
+    ensures { result ≡ run 0 Between text.now }
 {
-    let mut state = State::Between;
-    for (i, b) in text.iter().enumerate() {
-        state = step(i, state, *b);
-    }
-    state
+    text.iter()
+        .enumerate()
+        .fold(State::Between, |state, (i, b)| state.after(i, *b))
 }
 
-// The words of a text.
+// The words of a text. A loop, since it pushes on the way, which `fold` leaves no `?` for.
 fn shed(heap: Global, text: &[u8]) -> Result<Vec<u32>, AllocError>
     ensures { IfOk result (λ v. v.items ≡ shed 0 Between text.now) }
 {
     let mut words = Vec::new(heap);
     let mut state = State::Between;
     for (i, b) in text.iter().enumerate() {
-        state = step(i, state, *b);
-        if let Some(w) = word(state) {
+        state = state.after(i, *b);
+        if let Some(w) = state.word() {
             words.push(w)?;
         }
     }
@@ -187,8 +222,8 @@ pub fn from_hex(heap: Global, text: &[u8]) -> Result<Vec<u32>, HexError>
     ensures pieces { PiecesRead }
     ensures refuses { TokenRefused }
 {
-    if let Some(start) = bad(run(text)) {
-        let (line, column) = spot(&text[0..start]);
+    if let Some(start) = run(text).bad() {
+        let (line, column) = spot(&text[..start]);
         return Err(HexError::Token { line, column });
     }
     Ok(shed(heap, text)?)

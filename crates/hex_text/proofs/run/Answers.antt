@@ -1,20 +1,19 @@
-use Rattle.std.proofs.Common.{◌≡◌, ℕ, length, sym, ◌∙◌, subst, arith}
-use Rattle.std.proofs.lemmas.List.{at_drop_all}
-use Rattle.hex_text.specs.Scan.{run, Sound}
-use Rattle.hex_text.proofs.Scans.{run_turn}
+use Rattle.std.proofs.Common.{◌≡◌, ℕ, ◌∙◌, rules}
+use Rattle.std.specs.Borrow.{Bor}
+use Rattle.std.specs.Slice.Iter.{iter_steps}
+use Rattle.std.specs.Iterator.Adapters.{enumerate_steps}
+use Rattle.std.proofs.lemmas.Iterator.Consumers.{fold_from_yields_List, YieldsList-from_enumerate}
+use Rattle.std.proofs.lemmas.Iterator.{YieldsList, YieldsList-from_slice}
+use Rattle.std.specs.List.{fold, enumerate_from}
+use Rattle.hex_text.specs.declared.State.{State}
+use Rattle.hex_text.specs.declared.State.TheVariants.{Between}
+use Rattle.hex_text.specs.Scan.{step}
+use Rattle.hex_text.proofs.Scans.{run_fold}
 use Rattle.hex_text.proofs.run.Goals as goal
-
-pub loop-i-preserved : goal.loop-i-preserved
-loop-i-preserved c = run_turn c.args.text.now c.loop-i.i c.loop-i.state c.step-state.result c.loop-i-test.true c.step-state.ensures c.loop-i.invariant
 
 pub returns : goal.returns
 returns c =
     let text = c.args.text.now in
-    let i = c.loop-i.i in
-    let s = c.loop-i.state in
-    let e : i ≡ length text = omega arith in
-    let P : ℕ → Type 0 = λ n. Sound n s in
-    record {
-      value = sym (c.loop-i.invariant.0 ∙ at_drop_all (run i s) text i c.loop-i-test.false);
-      sound = subst P e c.loop-i.invariant.1;
-    }
+    let y : YieldsList {A = ℕ × Bor ℕ} {B = ℕ × ℕ} (enumerate_steps (iter_steps {A = ℕ})) (λ p. (p.0, p.1.now)) c.enumerate.result (enumerate_from 0 text) = YieldsList-from_enumerate (YieldsList-from_slice text (search rules)) (search rules) in
+    let e : c.fold.result ≡ fold (λ s p. step p.0 s p.1) Between (enumerate_from 0 text) = fold_from_yields_List {s = c.enumerate.result} _ (λ (s : State) (p : ℕ × ℕ). step p.0 s p.1) Between c.fold.result c.fold.ensures.ran y (λ a x b q h. (search rules, search rules)) in
+    e ∙ run_fold 0 Between text

@@ -8,17 +8,17 @@ use Rattle.hex_text.proofs.shed.Goals.{in-Some+in_ok-push, in_default}
 
 pub loop-i-preserved : goal.loop-i-preserved
 loop-i-preserved c =
-    let p : vec_items c.match-word.words ≡ vec_items c.loop-i.words ++ option_to_list (word c.step-state.result) =
+    let p : vec_items c.match-word.words ≡ vec_items c.loop-i.words ++ option_to_list (word c.after-state.result) =
     elim c.match-word.branch [
       | in-Some+in_ok-push w ↦ (let q = w.in_ok-push.ensures.items in grind (arith, q))
       | in_default w ↦ (let n = append-nil (vec_items c.loop-i.words) in grind (arith, n))
     ]
     in
-    shed_turn c.args.text.now (vec_items c.loop-i.words) (vec_items c.match-word.words) c.loop-i.i c.loop-i.state c.step-state.result c.loop-i-test.true c.step-state.ensures p c.loop-i.invariant
+    shed_turn c.args.text.now (vec_items c.loop-i.words) (vec_items c.match-word.words) c.loop-i.i c.loop-i.state c.after-state.result c.loop-i-test.true c.after-state.ensures p c.loop-i.invariant
 
 pub returns : goal.returns
 returns c =
     let text = c.args.text.now in
     let i = c.loop-i.i in
     let ws = vec_items c.loop-i.words in
-    sym (c.loop-i.invariant.0 ∙ ap (λ r. ws ++ r) (at_drop_all (shed i c.loop-i.state) text i c.loop-i-test.false) ∙ append-nil ws)
+    sym (c.loop-i.invariant ∙ ap (λ r. ws ++ r) (at_drop_all (shed i c.loop-i.state) text i c.loop-i-test.false) ∙ append-nil ws)
