@@ -182,7 +182,7 @@ fn run(text: &[u8]) -> State
         .fold(State::Between, |state, (i, b)| state.after(i, *b))
 }
 
-// The words of a text. A loop, since it pushes on the way, which `fold` leaves no `?` for.
+// The words of a text. Pushing may fail, so a loop and no `fold`.
 fn shed(heap: Global, text: &[u8]) -> Result<Vec<u32>, AllocError>
     ensures { IfOk result (λ v. v.items ≡ shed 0 Between text.now) }
 {
