@@ -1,14 +1,17 @@
 -- The states of a reader of text. Assumes nothing.
-use Rattle.std.proofs.Common.{◌≡◌, ℕ, ◌+◌, ◌^◌, ◌<◌, ◌≤◌, ◌&&◌, ◌||◌, eqb, ltb, leb, List, [], ◌∷◌, ◌++◌, length, get_or, take, drop, IfSome, Some, None, Option, sym, refl, ap, ◌∙◌, subst, arith}
+use Rattle.std.proofs.Common.{◌≡◌, ℕ, suc, ◌+◌, ◌^◌, ◌<◌, ◌≤◌, ◌&&◌, ◌||◌, Bool, true, false, not, reverse, cond, eqb, ltb, leb, List, [], ◌∷◌, ◌++◌, length, get_or, take, drop, IfSome, Some, None, Option, sym, refl, ap, ◌∙◌, subst, arith}
 use native.Mathlib.Nat.{pow-le-pow_right}
 use Rattle.std.proofs.lemmas.List.{append_assoc, at_drop_more, length-take-le}
 use Rattle.std.proofs.lemmas.Bool.{cond_both}
 use Rattle.std.proofs.lemmas.Bool.Decides.{nat_tests}
 use Rattle.std.specs.Option.{option_to_list}
-use Rattle.std.specs.List.{fold, enumerate_from}
+use Rattle.std.proofs.lemmas.List.{reverse-append, length-reverse}
+use Rattle.std.proofs.lemmas.List.Folds.{prefix_len-append}
+use Rattle.std.proofs.lemmas.List.Sums.{prefix_len-le-length, sum_by-append}
+use Rattle.std.specs.List.{prefix_len, count_by, fold, enumerate_from}
 use Rattle.hex_text.specs.declared.State.{State}
 use Rattle.hex_text.specs.declared.State.TheVariants.{Between, Comment, Digits, Bad}
-use Rattle.hex_text.specs.Scan.{digit, blank, grown_by, opened, step, run, word, shed, bad}
+use Rattle.hex_text.specs.Scan.{digit, blank, grown_by, opened, step, run, word, shed, bad, spot}
 
 pub digit_below : (b : ℕ) → IfSome (digit b) (λ d. d < 16)
 digit_below b =
@@ -85,3 +88,34 @@ shed_turn text ws vs i s t l e p h =
     let n : shed i s (drop i text) ≡ option_to_list (word (step i s b)) ++ shed (i + 1) (step i s b) (drop (i + 1) text) = at_drop_more (shed i s) text i 0 l in
     let q : shed 0 Between text ≡ ws ++ (option_to_list (word t) ++ shed (i + 1) t (drop (i + 1) text)) = rw e (h ∙ ap (λ r. ws ++ r) n) in
     rw (p, append_assoc) q
+
+-- ---- the line and the column behind some bytes
+-- how many bytes stand behind the last line feed
+abbrev pub behind : List ℕ → ℕ
+behind bs = prefix_len (λ b. not (eqb b 10)) (reverse bs)
+
+behind_more : (b : ℕ) (bs : List ℕ) → behind (b ∷ bs) ≡ cond (eqb (behind bs) (length bs)) (length bs + cond (eqb b 10) 0 1) (behind bs)
+behind_more b bs =
+    let p : ℕ → Bool = λ b. not (eqb b 10) in
+    let r = reverse-append (b ∷ []) bs in
+    let a = prefix_len-append p (reverse bs) (b ∷ []) in
+    let l = length-reverse bs in
+    grind (arith, nat_tests, r, a, l)
+
+next : (line column n m k j len : ℕ) (feed : Bool) (x y : ℕ × ℕ) → k ≤ len → m ≡ 0 + cond feed 1 0 + n → j ≡ cond (eqb k len) (len + cond feed 0 1) k → x ≡ (line + 1 + n, cond (eqb k len) (1 + k) (1 + k)) → y ≡ (line + n, cond (eqb k len) (column + 1 + k) (1 + k))
+    → cond feed x y ≡ (line + m, cond (eqb j (suc len)) (column + j) (1 + j))
+next line column n m k j len true x y l c e p q = grind (arith, nat_tests, l, c, e, p)
+next line column n m k j len false x y l c e p q = grind (arith, nat_tests, l, c, e, q)
+
+spot_is : (line column : ℕ) (bs : List ℕ) → spot line column bs ≡ (line + count_by (λ b. eqb b 10) bs, cond (eqb (behind bs) (length bs)) (column + behind bs) (1 + behind bs))
+spot_is line column [] = grind arith
+spot_is line column (b ∷ bs) =
+    let n = spot_is (line + 1) 1 bs in
+    let s = spot_is line (column + 1) bs in
+    let h = prefix_len-le-length (λ b. not (eqb b 10)) (reverse bs) in
+    let l : behind bs ≤ length bs = let r = length-reverse bs in omega arith in
+    let c = sum_by-append (λ b. cond (eqb b 10) 1 0) (b ∷ []) bs in
+    next line column (count_by (λ b. eqb b 10) bs) (count_by (λ b. eqb b 10) (b ∷ bs)) (behind bs) (behind (b ∷ bs)) (length bs) (eqb b 10) (spot (line + 1) 1 bs) (spot line (column + 1) bs) l c (behind_more b bs) n s
+
+pub spot_at : (front : List ℕ) (line column : ℕ) → line ≡ count_by (λ b. eqb b 10) front → column ≡ behind front → ◌≡◌ {A = ℕ × ℕ} (1 + line, 1 + column) (spot 1 1 front)
+spot_at front line column l e = let s = spot_is 1 1 front in grind (arith, nat_tests, s, l, e)

@@ -202,16 +202,8 @@ fn spot(front: &[u8]) -> (usize, usize)
     requires { length front.now + 1 < 2 ^ 64 }
     ensures { result ≡ spot 1 1 front.now }
 {
-    let mut line = 1;
-    let mut column = 1;
-    for b in front {
-        if *b == b'\n' {
-            line += 1;
-            column = 1;
-        } else {
-            column += 1;
-        }
-    }
+    let line = 1 + front.iter().filter(|b| **b == b'\n').count();
+    let column = 1 + front.iter().rev().take_while(|b| **b != b'\n').count();
     (line, column)
 }
 

@@ -91,6 +91,7 @@ abbrev pub opens : List Kind → ℕ → List ℕ → Option Opening → Result 
 opens kinds place ws None = Err (Misplaced place)
 opens kinds place ws (Some o) = cond (one_of kinds o.kind) (Ok (o, ws)) (Err (Misplaced place))
 
+-- the first word taken as an opening word
 abbrev pub opening : List Kind → ℕ → List ℕ → Result (Opening × List ℕ) Fault
 opening kinds place [] = Err (Ended place)
 opening kinds place (w ∷ ws) = opens kinds place ws (opening_of w)
@@ -105,6 +106,7 @@ width_by Exec number = 1
 width_by Transfer number = 1
 width_by End number = 0
 
+-- the same of the opening word itself
 abbrev pub width : Opening → ℕ
 width o = width_by o.kind o.number
 
@@ -128,6 +130,7 @@ saying_by Exec number place f = exec number (slice_index f 0)
 saying_by Transfer number place f = transfer number (slice_index f 0)
 saying_by End number place f = end number
 
+-- the same of the opening word itself
 abbrev pub saying : Opening → ℕ → List ℕ → Said
 saying o place f = saying_by o.kind o.number place f
 

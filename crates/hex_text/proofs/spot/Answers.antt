@@ -1,21 +1,18 @@
-use Rattle.std.proofs.Common.{◌≡◌, ◌+◌, cond, eqb, get_or, drop, sym, ◌∙◌, arith}
-use Rattle.std.proofs.lemmas.List.{at_drop_more, at_drop_all}
-use Rattle.std.proofs.lemmas.Bool.Decides.{nat_tests}
-use Rattle.hex_text.specs.Scan.{spot}
+use Rattle.std.proofs.Common.{◌≡◌, eqb, not, reverse, length, take, rules, ◌∙◌}
+use Rattle.std.specs.List.{count_by, prefix_len}
+use Rattle.std.proofs.lemmas.Iterator.Consumers.{count_from_yields_List}
+use Rattle.std.proofs.lemmas.Iterator.Search.{YieldsList-from_take_while}
+use Rattle.std.proofs.lemmas.Iterator.Adapters.{YieldsList-from_rev_slice}
+use Rattle.std.proofs.lemmas.List.Folds.{length-prefix_len}
+use Rattle.hex_text.proofs.Scans.{spot_at}
 use Rattle.hex_text.proofs.spot.Goals as goal
-use Rattle.hex_text.proofs.spot.Goals.{then-b-eq10, else-b-eq10}
-
-pub loop-b-preserved : goal.loop-b-preserved
-loop-b-preserved c =
-    let front = c.args.front.now in
-    let i = c.loop-b.b-index in
-    let line = c.loop-b.line in
-    let column = c.loop-b.column in
-    let next : spot line column (drop i front) ≡ cond (eqb (get_or front i 0) 10) (spot (line + 1) 1 (drop (i + 1) front)) (spot line (column + 1) (drop (i + 1) front)) = at_drop_more (spot line column) front i 0 c.loop-b-test.true in
-    elim c.if-b-eq10.branch [
-      | then-b-eq10 w ↦ (grind (arith, nat_tests, next), omega (arith, w.line-is), omega (arith, w.column-is))
-      | else-b-eq10 w ↦ (grind (arith, nat_tests, next), omega (arith, w.line-is), omega (arith, w.column-is))
-    ]
 
 pub returns : goal.returns
-returns c = sym (c.loop-b.invariant.0 ∙ at_drop_all (spot c.loop-b.line c.loop-b.column) c.args.front.now c.loop-b.b-index c.loop-b-test.false)
+returns c =
+    let front = c.args.front.now in
+    let l : c.count-line.result ≡ count_by (λ b. eqb b 10) front = search rules in
+    let k : c.count-column.result ≡ length (take (prefix_len (λ b. not (eqb b 10)) (reverse front)) (reverse front)) =
+    count_from_yields_List c.take_while.result c.count-column.result c.count-column.ensures.ran
+    (YieldsList-from_take_while {s = c.take_while.result} _ (λ b. not (eqb b 10)) (YieldsList-from_rev_slice front (search rules)) (search rules) (search rules) (λ x b q h. (search rules, search rules)))
+    in
+    spot_at front c.count-line.result c.count-column.result l (k ∙ length-prefix_len (λ b. not (eqb b 10)) (reverse front))
