@@ -24,6 +24,7 @@ impl From<AllocError> for BytesError {
     }
 }
 
+// Twice, since the two errors of std have no bound in common.
 impl<T: Drop> From<AllocFailed<T>> for BytesError {
     ghost from_gives = { λ _ r. r ≡ NoMemory };
 
