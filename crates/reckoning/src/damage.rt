@@ -1,10 +1,12 @@
 // The ways in which a file is damaged.
-ghost use Rattle.std.specs.Prelude.{◌≡◌, ◌<◌, ◌++◌, length, IfOk, slice_index, slice_set};
+ghost use Rattle.std.specs.Prelude.{◌≡◌, ◌<◌, ◌≤◌, ◌++◌, length, take, IfOk, slice_index, slice_set};
 ghost use Rattle.std.specs.List.{insert, remove};
 
 use std::alloc::{AllocError, Global};
+use std::fmt;
 
-#[derive(Clone, Copy)]
+// In the order in which they are told.
+#[derive(Clone, Copy, PartialEq, Eq, PartialOrd, Ord)]
 pub enum Damage {
     Unharmed,
     Cut,
@@ -19,24 +21,9 @@ pub enum Damage {
     Mixed,
 }
 
-// Each damage once, in the order in which they are told.
-pub const DAMAGES: [Damage; 11] = [
-    Damage::Unharmed,
-    Damage::Cut,
-    Damage::OtherKind,
-    Damage::OtherNumber,
-    Damage::Removed,
-    Damage::Doubled,
-    Damage::Appended,
-    Damage::TwoInARecord,
-    Damage::OtherPair,
-    Damage::OtherCount,
-    Damage::Mixed,
-];
-
-impl Damage {
-    pub(crate) fn name(self) -> &'static str {
-        match self {
+impl fmt::Display for Damage {
+    fn fmt<W: fmt::Write>(&self, f: &mut fmt::Formatter<W>) -> fmt::Result {
+        f.pad(match self {
             Damage::Unharmed => "unharmed",
             Damage::Cut => "cut short",
             Damage::OtherKind => "kind changed",
@@ -48,50 +35,89 @@ impl Damage {
             Damage::OtherPair => "pair changed",
             Damage::OtherCount => "count changed",
             Damage::Mixed => "mixed",
-        }
+        })
     }
 }
 
-// The file with another word at this place.
-pub(crate) fn with_word(
-    heap: Global,
-    file: &[u32],
-    place: usize,
-    word: u32,
-) -> Result<Vec<u32>, AllocError>
-    requires { place < length file.now }
-    ensures { IfOk result (λ v. v.items ≡ slice_set file.now place word) }
-{
-    let mut words = Vec::from_slice(heap, file)?;
-    words[place] = word;
-    Ok(words)
+// Numbers at the bounds of the ranges, and just past them.
+pub const EDGES: [u32; 18] = [
+    0,
+    1,
+    8,
+    9,
+    100,
+    101,
+    256,
+    257,
+    4_095,
+    4_096,
+    4_097,
+    65_535,
+    65_536,
+    1_000_000,
+    1_000_001,
+    1_048_576,
+    1_048_577,
+    0x1fff_ffff,
+];
+
+// A whole file, and the heap for its damaged copies. A place that it lacks is not damaged.
+#[derive(Clone, Copy)]
+pub struct File<'a> {
+    pub heap: Global,
+    pub words: &'a [u32],
 }
 
-// The file without the word at this place.
-pub(crate) fn without(heap: Global, file: &[u32], place: usize) -> Result<Vec<u32>, AllocError>
-    requires { place < length file.now }
-    ensures { IfOk result (λ v. v.items ≡ remove file.now place) }
-{
-    let mut words = Vec::from_slice(heap, file)?;
-    let _ = words.remove(place);
-    Ok(words)
-}
+impl File<'_> {
+    // The words before this place.
+    pub(crate) fn cut(self, place: usize) -> Result<Vec<u32>, AllocError>
+        ensures { IfOk result (λ v. v.items ≡ take place self.entry.words.now) }
+    {
+        let mut words = Vec::from_slice(self.heap, self.words)?;
+        words.truncate(place);
+        Ok(words)
+    }
 
-// The file with the word at this place twice.
-pub(crate) fn doubled(heap: Global, file: &[u32], place: usize) -> Result<Vec<u32>, AllocError>
-    requires { place < length file.now }
-    ensures { IfOk result (λ v. v.items ≡ insert file.now place (slice_index file.now place)) }
-{
-    let mut words = Vec::from_slice(heap, file)?;
-    words.insert(place, file[place])?;
-    Ok(words)
-}
+    // With another word at this place.
+    pub(crate) fn with_word(self, place: usize, word: u32) -> Result<Vec<u32>, AllocError>
+        ensures { IfOk result (λ v. v.items ≡ slice_set self.entry.words.now place word) }
+    {
+        let mut words = Vec::from_slice(self.heap, self.words)?;
+        if let Some(old) = words.get_mut(place) {
+            *old = word;
+        }
+        Ok(words)
+    }
 
-// The file with more words behind it.
-pub(crate) fn with_more(heap: Global, file: &[u32], more: &[u32]) -> Result<Vec<u32>, AllocError>
-    ensures { IfOk result (λ v. v.items ≡ file.now ++ more.now) }
-{
-    let mut words = Vec::from_slice(heap, file)?;
-    words.extend_from_slice(more)?;
-    Ok(words)
+    // Without the word at this place.
+    pub(crate) fn without(self, place: usize) -> Result<Vec<u32>, AllocError>
+        ensures { IfOk result (λ v. v.items ≡ remove self.entry.words.now place) }
+    {
+        let mut words = Vec::from_slice(self.heap, self.words)?;
+        if place < words.len() {
+            let _ = words.remove(place);
+        }
+        Ok(words)
+    }
+
+    // With the word at this place twice.
+    pub(crate) fn doubled(self, place: usize) -> Result<Vec<u32>, AllocError>
+        ensures twice { place < length self.entry.words.now → IfOk result (λ v. v.items ≡ insert self.entry.words.now place (slice_index self.entry.words.now place)) }
+        ensures same { length self.entry.words.now ≤ place → IfOk result (λ v. v.items ≡ self.entry.words.now) }
+    {
+        let mut words = Vec::from_slice(self.heap, self.words)?;
+        if let Some(word) = self.words.get(place) {
+            words.insert(place, *word)?;
+        }
+        Ok(words)
+    }
+
+    // With more words behind it.
+    pub(crate) fn with_more(self, more: &[u32]) -> Result<Vec<u32>, AllocError>
+        ensures { IfOk result (λ v. v.items ≡ self.entry.words.now ++ more.now) }
+    {
+        let mut words = Vec::from_slice(self.heap, self.words)?;
+        words.extend_from_slice(more)?;
+        Ok(words)
+    }
 }

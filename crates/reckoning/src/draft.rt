@@ -2,12 +2,20 @@
 ghost use Rattle.std.specs.Prelude.{◌≡◌, ◌+◌, ◌*◌, ◌%◌, IfOk, vec_len};
 
 use std::alloc::{AllocError, Global};
+use words::Kind;
 
-// A word of this kind and this number.
-pub(crate) fn word(kind: u32, number: u32) -> u32
-    ensures { result ≡ kind % 8 * 536870912 + number % 536870912 }
+// A word with these top three bits and this number.
+pub(crate) fn word(top: u32, number: u32) -> u32
+    ensures { result ≡ top % 8 * 536870912 + number % 536870912 }
 {
-    kind % 8 * 0x2000_0000 + number % 0x2000_0000
+    top % 8 * 0x2000_0000 + number % 0x2000_0000
+}
+
+// A word that belongs to the record before it.
+pub(crate) fn plain(number: u32) -> u32
+    ensures { result ≡ number % 536870912 }
+{
+    word(0, number)
 }
 
 // The words of a file so far.
@@ -23,15 +31,10 @@ impl Draft {
         }
     }
 
-    pub(crate) fn record(
-        &mut self,
-        kind: u32,
-        number: u32,
-        plain: &[u32],
-    ) -> Result<(), AllocError> {
-        self.words.push(word(kind, number))?;
-        for number in plain {
-            self.words.push(word(0, *number))?;
+    fn record(&mut self, kind: Kind, number: u32, fields: &[u32]) -> Result<(), AllocError> {
+        self.words.push(word(kind as u32, number))?;
+        for field in fields {
+            self.words.push(plain(*field))?;
         }
         Ok(())
     }
@@ -43,20 +46,20 @@ impl Draft {
         slot_load: u32,
         scratchpad: u32,
     ) -> Result<(), AllocError> {
-        self.record(1, cores, &[slot_time, slot_load, scratchpad])
+        self.record(Kind::Machine, cores, &[slot_time, slot_load, scratchpad])
     }
 
     // So many regions are told of, whatever sizes follow.
     pub(crate) fn regions(&mut self, count: u32, sizes: &[u32]) -> Result<(), AllocError> {
-        self.record(2, count, sizes)
+        self.record(Kind::Regions, count, sizes)
     }
 
     pub(crate) fn task(&mut self, limit: u32, local: u32) -> Result<(), AllocError> {
-        self.record(3, limit, &[local])
+        self.record(Kind::Task, limit, &[local])
     }
 
     pub(crate) fn channel(&mut self, bytes: u32, from: u32, to: u32) -> Result<(), AllocError> {
-        self.record(4, bytes, &[from % 64 * 64 + to % 64])
+        self.record(Kind::Channel, bytes, &[from % 64 * 64 + to % 64])
     }
 
     // The file, with its end word.
@@ -64,7 +67,7 @@ impl Draft {
         ensures { IfOk result (λ v. vec_len v ≡ vec_len self.words + 1) }
     {
         let count = u32::try_from(self.words.len()).unwrap_or(0);
-        self.words.push(word(7, count))?;
+        self.words.push(word(Kind::End as u32, count))?;
         let Draft { words } = self;
         Ok(words)
     }
@@ -100,21 +103,3 @@ pub(crate) fn largest(heap: Global) -> Result<Vec<u32>, AllocError> {
     }
     draft.end()
 }
-
-// The two-task plan, on which the worked examples stand.
-pub const TWO_TASKS: [u32; 14] = [
-    0x2000_0002,
-    4,
-    12,
-    100,
-    0x4000_0002,
-    60,
-    40,
-    0x6000_000A,
-    20,
-    0x6000_0006,
-    30,
-    0x8000_0018,
-    1,
-    0xE000_000D,
-];

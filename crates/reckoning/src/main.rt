@@ -2,9 +2,11 @@
 #![tactic(auto)]
 
 mod damage;
+mod dice;
 mod draft;
 mod outcome;
 mod rounds;
+mod rule;
 mod sweep;
 mod tally;
 mod trial;
@@ -14,7 +16,7 @@ use trial::Trial;
 
 fn run(rt: &HostRuntime) -> anyhow::Result<()> {
     let mut trial = Trial::new(rt.alloc());
-    rounds::all(&mut trial)?;
+    trial.all()?;
     print!(rt; "{}", trial.tally())?;
     let Some(first) = trial.first() else {
         return Ok(());

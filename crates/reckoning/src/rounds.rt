@@ -1,116 +1,29 @@
 // The rounds of a trial: which files are damaged, in which ways and at which places.
-ghost use Rattle.std.specs.Prelude.{◌<◌, ◌≤◌, T, length};
+ghost use Rattle.std.specs.Prelude.{◌<◌};
 
-use crate::damage::{Damage, doubled, with_more, with_word, without};
-use crate::draft::{Draft, TWO_TASKS, largest, varied, word};
+use crate::damage::{Damage, EDGES, File};
+use crate::dice::Dice;
+use crate::draft::{Draft, largest, plain, varied, word};
 use crate::trial::Trial;
+use cases::two_task;
 use std::alloc::AllocError;
-
-// Numbers at the bounds of the ranges, and just past them.
-const EDGES: [u32; 18] = [
-    0,
-    1,
-    8,
-    9,
-    100,
-    101,
-    256,
-    257,
-    4_095,
-    4_096,
-    4_097,
-    65_535,
-    65_536,
-    1_000_000,
-    1_000_001,
-    1_048_576,
-    1_048_577,
-    0x1fff_ffff,
-];
+use std::iter;
+use words::Kind;
 
 // The places of a file that are damaged: from one place on, each so many words.
 #[derive(Clone, Copy)]
 struct Places {
     from: usize,
     stride: usize,
+    ghost goes_on: { 0 < stride },
 }
 
 impl Places {
     const ALL: Places = Places { from: 0, stride: 1 };
 
-    fn has(self, place: usize) -> bool
-        ensures { T result → self.from ≤ place }
-    {
-        place >= self.from && self.stride > 0 && (place - self.from) % self.stride == 0
+    fn starting(from: usize) -> Places {
+        Places { from, stride: 1 }
     }
-}
-
-fn cuts(trial: &mut Trial, file: &[u32]) -> Result<(), AllocError> {
-    for length in 0..file.len() {
-        trial.file(Damage::Cut, &file[0..length])?;
-    }
-    Ok(())
-}
-
-fn kinds(trial: &mut Trial, file: &[u32], places: Places) -> Result<(), AllocError> {
-    for place in 0..file.len() {
-        if !places.has(place) {
-            continue;
-        }
-        for kind in 0..8 {
-            if kind == file[place] >> 29 {
-                continue;
-            }
-            let other = word(kind, file[place]);
-            let words = with_word(trial.heap(), file, place, other)?;
-            trial.file(Damage::OtherKind, &words)?;
-        }
-    }
-    Ok(())
-}
-
-fn numbers(trial: &mut Trial, file: &[u32], places: Places) -> Result<(), AllocError> {
-    for place in 0..file.len() {
-        if !places.has(place) {
-            continue;
-        }
-        let old = file[place];
-        let beside = [old.wrapping_sub(1), old.wrapping_add(1)];
-        for number in EDGES.iter().chain(&beside) {
-            let other = word(old >> 29, *number);
-            let words = with_word(trial.heap(), file, place, other)?;
-            trial.file(Damage::OtherNumber, &words)?;
-        }
-    }
-    Ok(())
-}
-
-fn removals(trial: &mut Trial, file: &[u32]) -> Result<(), AllocError> {
-    for place in 0..file.len() {
-        let words = without(trial.heap(), file, place)?;
-        trial.file(Damage::Removed, &words)?;
-    }
-    Ok(())
-}
-
-fn doublings(trial: &mut Trial, file: &[u32]) -> Result<(), AllocError> {
-    for place in 0..file.len() {
-        let words = doubled(trial.heap(), file, place)?;
-        trial.file(Damage::Doubled, &words)?;
-    }
-    Ok(())
-}
-
-fn appendings(trial: &mut Trial, file: &[u32]) -> Result<(), AllocError> {
-    let length = u32::try_from(file.len()).unwrap_or(0);
-    for kind in 0..8 {
-        let words = with_more(trial.heap(), file, &[word(kind, length)])?;
-        trial.file(Damage::Appended, &words)?;
-        let words = with_more(trial.heap(), file, &[word(kind, 1), word(0, 1)])?;
-        trial.file(Damage::Appended, &words)?;
-    }
-    let words = with_more(trial.heap(), file, file)?;
-    trial.file(Damage::Appended, &words)
 }
 
 // What may be done to one of two words of a record.
@@ -118,187 +31,198 @@ fn spoiled(old: u32) -> [u32; 4] {
     [
         word(old >> 29, 0),
         word(old >> 29, 0x1fff_ffff),
-        word(0, old),
-        word(7, old),
+        plain(old),
+        word(Kind::End as u32, old),
     ]
 }
 
-// Spoils two words of a file, or spoils the first and cuts the file at the second.
-fn two_words(trial: &mut Trial, file: &[u32], first: usize, second: usize) -> Result<(), AllocError>
-    requires first_lt_second { first < second }
-    requires second_in_bounds { second < length file.now }
-{
-    for one in spoiled(file[first]) {
-        let words = with_word(trial.heap(), file, first, one)?;
-        trial.file(Damage::TwoInARecord, &words[0..second])?;
-        for other in spoiled(file[second]) {
-            let words = with_word(trial.heap(), &words, second, other)?;
-            trial.file(Damage::TwoInARecord, &words)?;
-        }
-    }
-    Ok(())
-}
-
-// Two words of one record: all words between them, and the second too, are plain.
-fn twos(trial: &mut Trial, file: &[u32], places: Places) -> Result<(), AllocError> {
-    for first in 0..file.len() {
-        if !places.has(first) {
-            continue;
-        }
-        for second in first + 1..file.len() {
-            if file[second] >> 29 != 0 {
-                break;
-            }
-            two_words(trial, file, first, second)?;
-        }
-    }
-    Ok(())
-}
-
-// Each pair of numbers below 64 in the one channel of a plan.
-fn pairs(trial: &mut Trial, tasks: u32) -> Result<(), AllocError> {
-    let file = varied(trial.heap(), tasks, 1)?;
-    let Some(place) = file.len().checked_sub(2) else {
-        return Ok(());
-    };
-    for pair in 0..4096 {
-        let words = with_word(trial.heap(), &file, place, pair)?;
-        trial.file(Damage::OtherPair, &words)?;
-    }
-    Ok(())
-}
-
-// A file that tells of so many regions and has so many, each of this size.
-fn region_count(trial: &mut Trial, told: u32, had: usize, size: u32) -> Result<(), AllocError> {
-    let mut draft = Draft::new(trial.heap());
-    draft.machine(2, 4, 12, 100)?;
-    let sizes = [size; 12];
-    draft.regions(told, sizes.get(0..had).unwrap_or(&[]))?;
-    draft.task(10, 20)?;
-    trial.file(Damage::OtherCount, &draft.end()?)
-}
-
-fn region_counts(trial: &mut Trial, size: u32) -> Result<(), AllocError> {
-    for had in 0..13 {
-        for told in 0..20 {
-            region_count(trial, told, had, size)?;
-        }
-        region_count(trial, 0x1fff_ffff, had, size)?;
-    }
-    Ok(())
-}
-
-// About the greatest count of tasks, then of channels; what is past it is damaged once more.
-fn task_and_channel_counts(trial: &mut Trial) -> Result<(), AllocError> {
-    for tasks in [0, 1, 2, 63, 64, 65, 66] {
-        let file = varied(trial.heap(), tasks, 0)?;
-        trial.file(Damage::OtherCount, &file)?;
-    }
-    for channels in [0, 1, 2, 255, 256, 257, 258] {
-        let file = varied(trial.heap(), 64, channels)?;
-        trial.file(Damage::OtherCount, &file)?;
-    }
-    let file = varied(trial.heap(), 65, 2)?;
-    at_places(
-        trial,
-        &file,
-        Places {
-            from: 138,
-            stride: 1,
-        },
-    )?;
-    let file = varied(trial.heap(), 64, 257)?;
-    at_places(
-        trial,
-        &file,
-        Places {
-            from: 650,
-            stride: 1,
-        },
-    )
-}
-
-fn at_places(trial: &mut Trial, file: &[u32], places: Places) -> Result<(), AllocError> {
-    kinds(trial, file, places)?;
-    numbers(trial, file, places)?;
-    twos(trial, file, places)
-}
-
-fn everywhere(trial: &mut Trial, file: &[u32]) -> Result<(), AllocError> {
-    trial.file(Damage::Unharmed, file)?;
-    cuts(trial, file)?;
-    removals(trial, file)?;
-    doublings(trial, file)?;
-    appendings(trial, file)
-}
-
-// A linear congruential generator, always with the same start.
+// A whole file on trial.
 #[derive(Drop)]
-struct Dice {
-    state: u64,
+struct Round<'a> {
+    trial: &'a mut Trial,
+    file: File<'a>,
 }
 
-impl Dice {
-    fn below(&mut self, bound: usize) -> usize
-        requires { 0 < bound }
-        ensures { result < bound }
+impl<'a> Round<'a> {
+    fn new(trial: &'a mut Trial, words: &'a [u32]) -> Round<'a> {
+        let heap = trial.heap();
+        Round {
+            trial,
+            file: File { heap, words },
+        }
+    }
+
+    // Does this at each of the places, with the word that stands there.
+    fn each<F>(&mut self, places: Places, step: F) -> Result<(), AllocError>
+    where
+        F: Fn(&mut Round<'a>, usize, u32) -> Result<(), AllocError>,
+        requires { F.IsAlwaysCallable step }
     {
-        self.state = self
-            .state
-            .wrapping_mul(6_364_136_223_846_793_005)
-            .wrapping_add(1_442_695_040_888_963_407);
-        (self.state >> 33) as usize % bound
-    }
-}
-
-// One damage of any sort at any place.
-fn any_damage(dice: &mut Dice, words: &mut Vec<u32>) -> Result<(), AllocError> {
-    let length = words.len();
-    if length == 0 {
-        return Ok(());
-    }
-    let place = dice.below(length);
-    let old = words[place];
-    match dice.below(8) {
-        0 => words[place] = word(dice.below(8) as u32, old),
-        1 => words.insert(place, old)?,
-        2 => words.swap(place, dice.below(length)),
-        3 => words.truncate(place),
-        4 => {
-            let _ = words.remove(place);
+        let words = self.file.words.iter().enumerate();
+        for (place, word) in words.skip(places.from).step_by(places.stride) {
+            step(self, place, *word)?;
         }
-        _ => words[place] = word(old >> 29, EDGES[dice.below(18)]),
+        Ok(())
     }
-    Ok(())
-}
 
-fn mixed(trial: &mut Trial, file: &[u32], times: u32) -> Result<(), AllocError> {
-    let mut dice = Dice { state: 1 };
-    for _ in 0..times {
-        let mut words = Vec::from_slice(trial.heap(), file)?;
-        for _ in 0..2 + dice.below(3) {
-            any_damage(&mut dice, &mut words)?;
+    // Tries what is made of the file at each place.
+    fn copies<F>(&mut self, damage: Damage, copy: F) -> Result<(), AllocError>
+    where
+        F: Fn(File<'a>, usize) -> Result<Vec<u32>, AllocError>,
+        requires { F.IsAlwaysCallable copy }
+    {
+        self.each(Places::ALL, |round, place, _| {
+            round.trial.file(damage, &copy(round.file, place)?)
+        })
+    }
+
+    fn everywhere(&mut self) -> Result<(), AllocError> {
+        self.trial.file(Damage::Unharmed, self.file.words)?;
+        self.copies(Damage::Cut, File::cut)?;
+        self.copies(Damage::Removed, File::without)?;
+        self.copies(Damage::Doubled, File::doubled)?;
+        self.appendings()
+    }
+
+    fn appendings(&mut self) -> Result<(), AllocError> {
+        let length = u32::try_from(self.file.words.len()).unwrap_or(0);
+        for top in 0..8 {
+            self.append(&[word(top, length)])?;
+            self.append(&[word(top, 1), plain(1)])?;
         }
-        trial.file(Damage::Mixed, &words)?;
+        self.append(self.file.words)
     }
-    Ok(())
+
+    fn append(&mut self, more: &[u32]) -> Result<(), AllocError> {
+        self.trial
+            .file(Damage::Appended, &self.file.with_more(more)?)
+    }
+
+    fn at(&mut self, places: Places) -> Result<(), AllocError> {
+        self.each(places, Round::kinds)?;
+        self.each(places, Round::numbers)?;
+        self.each(places, Round::twos)
+    }
+
+    // Another word at this place.
+    fn other(&mut self, damage: Damage, place: usize, word: u32) -> Result<(), AllocError> {
+        self.trial.file(damage, &self.file.with_word(place, word)?)
+    }
+
+    fn kinds(&mut self, place: usize, old: u32) -> Result<(), AllocError> {
+        for top in (0..8).filter(|top| *top != old >> 29) {
+            self.other(Damage::OtherKind, place, word(top, old))?;
+        }
+        Ok(())
+    }
+
+    fn numbers(&mut self, place: usize, old: u32) -> Result<(), AllocError> {
+        let beside = [old.wrapping_sub(1), old.wrapping_add(1)];
+        for number in EDGES.iter().chain(&beside) {
+            self.other(Damage::OtherNumber, place, word(old >> 29, *number))?;
+        }
+        Ok(())
+    }
+
+    // This word and each further one of its record, which are plain: the first is spoiled, and then the second is, or the
+    // file is cut at it.
+    fn twos(&mut self, first: usize, old: u32) -> Result<(), AllocError> {
+        for one in spoiled(old) {
+            let words = self.file.with_word(first, one)?;
+            let file = File {
+                heap: self.file.heap,
+                words: &words,
+            };
+            let behind = self.file.words.iter().enumerate().skip(first).skip(1);
+            for (second, old) in behind.take_while(|(_, word)| **word >> 29 == 0) {
+                self.trial.file(Damage::TwoInARecord, &file.cut(second)?)?;
+                for other in spoiled(*old) {
+                    let words = file.with_word(second, other)?;
+                    self.trial.file(Damage::TwoInARecord, &words)?;
+                }
+            }
+        }
+        Ok(())
+    }
+
+    fn mixed(&mut self, times: u32) -> Result<(), AllocError> {
+        let mut dice = Dice::new();
+        for _ in 0..times {
+            let mut words = Vec::from_slice(self.file.heap, self.file.words)?;
+            for _ in 0..2 + dice.below(3) {
+                dice.damage(&mut words)?;
+            }
+            self.trial.file(Damage::Mixed, &words)?;
+        }
+        Ok(())
+    }
+
+    // Each pair of numbers below 64 in the one channel of a plan, which is before its end.
+    fn pairs(&mut self) -> Result<(), AllocError> {
+        let place = self.file.words.len().saturating_sub(2);
+        for pair in 0..4096 {
+            self.other(Damage::OtherPair, place, pair)?;
+        }
+        Ok(())
+    }
 }
 
-// All rounds.
-pub(crate) fn all(trial: &mut Trial) -> Result<(), AllocError> {
-    let larger = varied(trial.heap(), 20, 60)?;
-    let largest = largest(trial.heap())?;
-    everywhere(trial, &TWO_TASKS)?;
-    everywhere(trial, &larger)?;
-    everywhere(trial, &largest)?;
-    at_places(trial, &TWO_TASKS, Places::ALL)?;
-    at_places(trial, &larger, Places::ALL)?;
-    at_places(trial, &largest, Places { from: 0, stride: 9 })?;
-    pairs(trial, 5)?;
-    for size in [0, 10, 20, 1_048_577] {
-        region_counts(trial, size)?;
+impl Trial {
+    // A file that tells of so many regions and has these.
+    fn region_count(&mut self, told: u32, sizes: &[u32]) -> Result<(), AllocError> {
+        let mut draft = Draft::new(self.heap());
+        draft.machine(2, 4, 12, 100)?;
+        draft.regions(told, sizes)?;
+        draft.task(10, 20)?;
+        self.file(Damage::OtherCount, &draft.end()?)
     }
-    task_and_channel_counts(trial)?;
-    mixed(trial, &TWO_TASKS, 1_000)?;
-    mixed(trial, &larger, 2_000)
+
+    fn region_counts(&mut self, size: u32) -> Result<(), AllocError> {
+        let sizes = [size; 12];
+        for had in 0..=sizes.len() {
+            for told in (0..20).chain(iter::once(0x1fff_ffff)) {
+                self.region_count(told, &sizes[..had])?;
+            }
+        }
+        Ok(())
+    }
+
+    fn counts(&mut self, tasks: u32, channels: u32) -> Result<(), AllocError> {
+        let file = varied(self.heap(), tasks, channels)?;
+        self.file(Damage::OtherCount, &file)
+    }
+
+    // About the greatest count of tasks, then of channels; what is past it is damaged once more.
+    fn task_and_channel_counts(&mut self) -> Result<(), AllocError> {
+        for tasks in [0, 1, 2, 63, 64, 65, 66] {
+            self.counts(tasks, 0)?;
+        }
+        for channels in [0, 1, 2, 255, 256, 257, 258] {
+            self.counts(64, channels)?;
+        }
+        let file = varied(self.heap(), 65, 2)?;
+        Round::new(self, &file).at(Places::starting(138))?;
+        let file = varied(self.heap(), 64, 257)?;
+        Round::new(self, &file).at(Places::starting(650))
+    }
+
+    // All rounds.
+    pub(crate) fn all(&mut self) -> Result<(), AllocError> {
+        let small = two_task();
+        let larger = varied(self.heap(), 20, 60)?;
+        let largest = largest(self.heap())?;
+        Round::new(self, small).everywhere()?;
+        Round::new(self, &larger).everywhere()?;
+        Round::new(self, &largest).everywhere()?;
+        Round::new(self, small).at(Places::ALL)?;
+        Round::new(self, &larger).at(Places::ALL)?;
+        Round::new(self, &largest).at(Places { from: 0, stride: 9 })?;
+        Round::new(self, &varied(self.heap(), 5, 1)?).pairs()?;
+        for size in [0, 10, 20, 1_048_577] {
+            self.region_counts(size)?;
+        }
+        self.task_and_channel_counts()?;
+        Round::new(self, small).mixed(1_000)?;
+        Round::new(self, &larger).mixed(2_000)
+    }
 }

@@ -1,49 +1,72 @@
 // The second reader. It goes over the words once, one by one, and keeps the gravest complaint about the record
 // that it is in; it decides where the record is whole. The numbers are picked out of an accepted file by their places.
-ghost use Rattle.std.specs.Prelude.{◌≡◌, ◌/◌, ◌%◌, ◌<◌, ◌≤◌, true, length, is_some, Some, slice_index};
+ghost use Rattle.std.specs.Prelude.{◌≡◌, ◌/◌, ◌%◌, ◌≤◌, true, is_some, slice_index};
+ghost use Rattle.std.specs.Range.{range_inclusive_start, range_inclusive_end};
 
-use crate::outcome::{ChannelNumbers, Numbers, Outcome, TaskNumbers};
+use crate::outcome::{Numbers, Outcome};
+use crate::rule::{Complaint, Rule};
+use plan::{Channel, Task};
 use std::alloc::{AllocError, Global};
-use words::{Layer, Refusal};
+use std::ops::RangeInclusive;
 
-// The parts of a plan file.
+// The parts of a plan file, by the kinds of the words that open them.
 #[derive(Clone, Copy, PartialEq, Eq)]
 enum Part {
-    Machine,
-    Regions,
-    Task,
-    Channel,
-    End,
+    Machine = 1,
+    Regions = 2,
+    Task = 3,
+    Channel = 4,
+    End = 7,
 }
 
-// A rule that is broken, and where. The lower rule is the graver, then the earlier place.
-#[derive(Clone, Copy, PartialEq, Eq, PartialOrd, Ord)]
-struct Complaint {
-    rule: u32,
-    place: usize,
-}
+// A word that opens no part.
+#[derive(Drop)]
+struct NoPart;
 
-impl Complaint {
-    fn refusal(self) -> Refusal
-        ensures { (result.number ≡ self.rule) × (result.place ≡ self.place) }
-    {
-        let layer = if self.rule <= 2 {
-            Layer::Words
-        } else {
-            Layer::Records
-        };
-        Refusal {
-            number: self.rule,
-            layer,
-            place: self.place,
+impl TryFrom<u32> for Part {
+    type Error = NoPart;
+
+    fn try_from(word: u32) -> Result<Part, NoPart> {
+        match kind(word) {
+            1 => Ok(Part::Machine),
+            2 => Ok(Part::Regions),
+            3 => Ok(Part::Task),
+            4 => Ok(Part::Channel),
+            7 => Ok(Part::End),
+            _ => Err(NoPart),
         }
     }
 }
 
-enum Step {
-    Goes,
-    Whole,
-    Refused(Complaint),
+impl Part {
+    // Whether it may stand behind the part before it.
+    fn follows(self, before: Option<Part>) -> bool {
+        match self {
+            Part::Machine => before.is_none(),
+            Part::Regions => before == Some(Part::Machine),
+            Part::Task => matches!(before, Some(Part::Regions | Part::Task)),
+            Part::Channel | Part::End => matches!(before, Some(Part::Task | Part::Channel)),
+        }
+    }
+
+    // What the number may be that stands so many words after the part's first.
+    fn range(self, offset: usize) -> RangeInclusive<u32>
+        ensures { range_inclusive_start result ≤ range_inclusive_end result }
+    {
+        match (self, offset) {
+            (Part::Machine, 0) => 1..=8,
+            (Part::Machine, 1) => 1..=100,
+            (Part::Machine, 2) => 1..=256,
+            (Part::Machine, _) => 1..=1_048_576,
+            (Part::Regions, 0) => 1..=8,
+            (Part::Regions, _) => 1..=1_048_576,
+            (Part::Task, 0) => 1..=1_000_000,
+            (Part::Task, _) => 0..=65_535,
+            (Part::Channel, 0) => 1..=4_096,
+            (Part::Channel, _) => 0..=4_095,
+            (Part::End, _) => 0..=0x1fff_ffff,
+        }
+    }
 }
 
 const FIRST_REGION: usize = 5;
@@ -64,203 +87,175 @@ fn number(word: u32) -> u32
 fn number_at(words: &[u32], place: usize) -> u32
     ensures { result ≡ slice_index words.now place % 536870912 }
 {
-    if place < words.len() {
-        number(words[place])
-    } else {
-        0
-    }
+    words.get(place).map_or(0, |word| number(*word))
 }
 
-// The part that this kind opens after the part before it, or none where it may not stand there.
-fn opens(before: Option<Part>, kind: u32) -> Option<Part> {
-    match (before, kind) {
-        (None, 1) => Some(Part::Machine),
-        (Some(Part::Machine), 2) => Some(Part::Regions),
-        (Some(Part::Regions | Part::Task), 3) => Some(Part::Task),
-        (Some(Part::Task | Part::Channel), 4) => Some(Part::Channel),
-        (Some(Part::Task | Part::Channel), 7) => Some(Part::End),
-        _ => None,
-    }
-}
-
-// The least and the greatest number of the word that stands so many words after its record's first.
-fn range(part: Part, offset: usize) -> (u32, u32)
-    ensures { result.0 ≤ result.1 }
-{
-    match (part, offset) {
-        (Part::Machine, 0) => (1, 8),
-        (Part::Machine, 1) => (1, 100),
-        (Part::Machine, 2) => (1, 256),
-        (Part::Machine, _) => (1, 1_048_576),
-        (Part::Regions, 0) => (1, 8),
-        (Part::Regions, _) => (1, 1_048_576),
-        (Part::Task, 0) => (1, 1_000_000),
-        (Part::Task, _) => (0, 65_535),
-        (Part::Channel, 0) => (1, 4_096),
-        (Part::Channel, _) => (0, 4_095),
-        (Part::End, _) => (0, 0x1fff_ffff),
-    }
-}
-
-// Where the sweep stands: in which record, with how many words due, and what it counted before.
+// A record that has begun, and how many more words are due of it.
 #[derive(Clone, Copy)]
-struct Sweep {
-    part: Option<Part>,
+struct Record {
+    part: Part,
     opened: usize,
     due: u32,
+}
+
+// Where the sweep stands: in which record, and what it counted before.
+#[derive(Drop)]
+struct Sweep<'a> {
+    words: &'a [u32],
+    record: Option<Record>,
     gravest: Option<Complaint>,
     region_bytes: u64,
     tasks: u32,
     channels: u32,
 }
 
-impl Sweep {
-    fn complain(&mut self, rule: u32, place: usize)
+impl Sweep<'_> {
+    fn complain(&mut self, rule: Rule, place: usize)
         ensures { is_some self.new.gravest ≡ true }
     {
         let complaint = Complaint { rule, place };
         let gravest = self.gravest;
-        self.gravest = match gravest {
-            Some(before) => Some(before.min(complaint)),
-            None => Some(complaint),
-        };
+        self.gravest = Some(gravest.map_or(complaint, |before| before.min(complaint)));
     }
 
-    fn open(&mut self, part: Part, place: usize, number: u32)
-        ensures { (self.new.part ≡ Some part) × (self.new.opened ≡ place) }
-    {
-        self.part = Some(part);
-        self.opened = place;
-        self.due = match part {
-            Part::Machine => 3,
-            Part::Regions => number,
-            Part::Task | Part::Channel => 1,
-            Part::End => 0,
+    // The record that this word opens behind the one before.
+    fn open(&mut self, place: usize, word: u32) -> Result<Record, Complaint> {
+        let before = self.record.map(|record| record.part);
+        let part = match Part::try_from(word) {
+            Ok(part) if part.follows(before) => part,
+            _ => {
+                return Err(Complaint {
+                    rule: Rule::Misplaced,
+                    place,
+                });
+            }
         };
         match part {
             Part::Task => self.tasks = self.tasks.saturating_add(1),
             Part::Channel => self.channels = self.channels.saturating_add(1),
             Part::Machine | Part::Regions | Part::End => {}
         }
+        Ok(Record {
+            part,
+            opened: place,
+            due: match part {
+                Part::Machine => 3,
+                Part::Regions => number(word),
+                Part::Task | Part::Channel => 1,
+                Part::End => 0,
+            },
+        })
     }
 
     // The rules about the record as a whole, at its last word.
-    fn close(&mut self, part: Part, words: &[u32], place: usize)
-        requires { place < length words.now }
-    {
-        let last = number_at(words, place);
-        match part {
+    fn close(&mut self, record: Record, place: usize, last: u32) {
+        match record.part {
             Part::Machine => {}
             Part::Regions => {
-                if self.region_bytes > u64::from(number_at(words, 3)) {
-                    self.complain(6, self.opened);
+                if self.region_bytes > u64::from(number_at(self.words, 3)) {
+                    self.complain(Rule::Overfull, record.opened);
                 }
             }
             Part::Task => {
                 if self.tasks > 64 {
-                    self.complain(4, self.opened);
+                    self.complain(Rule::TooMany, record.opened);
                 }
             }
             Part::Channel => {
                 if self.channels > 256 {
-                    self.complain(4, self.opened);
+                    self.complain(Rule::TooMany, record.opened);
                 }
                 let (from, to) = (last >> 6, last & 63);
                 if from >= to || to >= self.tasks {
-                    self.complain(5, place);
+                    self.complain(Rule::Pair, place);
                 }
             }
             Part::End => {
-                if u64::from(last) != place as u64 || words.len() - place != 1 {
-                    self.complain(7, place);
+                if last as usize != place || place + 1 != self.words.len() {
+                    self.complain(Rule::End, place);
                 }
             }
         }
     }
 
     // The word at this place, the places before it done.
-    fn word(&mut self, words: &[u32], place: usize) -> Step
-        requires { place < length words.now }
-    {
-        let number = number_at(words, place);
-        let kind = kind(words[place]);
-        let part = match self.part {
-            Some(part) if self.due > 0 => {
-                self.due -= 1;
-                if kind != 0 {
-                    self.complain(2, place);
+    fn word(&mut self, place: usize, word: u32) -> Result<(), Complaint> {
+        let number = number(word);
+        let record = match self.record {
+            Some(Record { part, opened, due }) if due > 0 => {
+                if kind(word) != 0 {
+                    self.complain(Rule::Misplaced, place);
                 }
-                part
+                Record {
+                    part,
+                    opened,
+                    due: due - 1,
+                }
             }
-            before => {
-                let Some(part) = opens(before, kind) else {
-                    return Step::Refused(Complaint { rule: 2, place });
-                };
-                self.open(part, place, number);
-                part
-            }
+            _ => self.open(place, word)?,
         };
-        let offset = place.saturating_sub(self.opened);
-        let (least, greatest) = range(part, offset);
-        if number < least || number > greatest {
-            self.complain(3, place);
+        self.record = Some(record);
+        let offset = place.saturating_sub(record.opened);
+        if !record.part.range(offset).contains(&number) {
+            self.complain(Rule::Range, place);
         }
-        if part == Part::Regions && offset > 0 {
+        if record.part == Part::Regions && offset > 0 {
             self.region_bytes = self.region_bytes.saturating_add(u64::from(number));
         }
-        if self.due > 0 {
-            return Step::Goes;
+        if record.due > 0 {
+            return Ok(());
         }
-        self.close(part, words, place);
-        match self.gravest {
-            Some(complaint) => Step::Refused(complaint),
-            None if part == Part::End => Step::Whole,
-            None => Step::Goes,
+        self.close(record, place, number);
+        self.gravest.map_or(Ok(()), Err)
+    }
+
+    // The end is reached only where no word is left.
+    fn end(&self) -> Result<(), Complaint> {
+        match self.record {
+            Some(
+                Record {
+                    part: Part::End,
+                    ..
+                },
+            ) => Ok(()),
+            _ => Err(Complaint {
+                rule: Rule::Ended,
+                place: self.words.len(),
+            }),
         }
     }
 }
 
-// Why the words are no plan, or none where they are one.
-fn first_complaint(words: &[u32]) -> Option<Complaint> {
+// Why the words are no plan, if they are none.
+fn judge(words: &[u32]) -> Result<(), Complaint> {
     let mut sweep = Sweep {
-        part: None,
-        opened: 0,
-        due: 0,
+        words,
+        record: None,
         gravest: None,
         region_bytes: 0,
         tasks: 0,
         channels: 0,
     };
-    for place in 0..words.len() {
-        match sweep.word(words, place) {
-            Step::Goes => {}
-            Step::Whole => return None,
-            Step::Refused(complaint) => return Some(complaint),
-        }
+    for (place, word) in words.iter().enumerate() {
+        sweep.word(place, *word)?;
     }
-    Some(Complaint {
-        rule: 1,
-        place: words.len(),
-    })
+    sweep.end()
 }
 
 // The numbers of a file that is a plan.
 fn numbers(heap: Global, words: &[u32]) -> Result<Numbers, AllocError> {
-    let mut regions = Vec::new(heap);
+    let count = number_at(words, FIRST_REGION - 1) as usize;
+    let sizes = words.iter().skip(FIRST_REGION).take(count);
     let mut tasks = Vec::new(heap);
     let mut channels = Vec::new(heap);
-    let count = number_at(words, FIRST_REGION - 1) as usize;
-    for size in words.iter().skip(FIRST_REGION).take(count) {
-        regions.push(number(*size))?;
-    }
     for (opening, next) in words.iter().zip(words.iter().skip(1)) {
         let (first, second) = (number(*opening), number(*next));
-        match kind(*opening) {
-            3 => tasks.push(TaskNumbers {
+        match Part::try_from(*opening) {
+            Ok(Part::Task) => tasks.push(Task {
                 limit: first,
                 local: second,
             })?,
-            4 => channels.push(ChannelNumbers {
+            Ok(Part::Channel) => channels.push(Channel {
                 from: (second >> 6) as usize,
                 to: (second & 63) as usize,
                 bytes: first,
@@ -273,7 +268,7 @@ fn numbers(heap: Global, words: &[u32]) -> Result<Numbers, AllocError> {
         slot_time: number_at(words, 1),
         slot_load: number_at(words, 2),
         scratchpad: number_at(words, 3),
-        regions,
+        regions: sizes.map(|size| number(*size)).collect(heap)?,
         tasks,
         channels,
     })
@@ -281,8 +276,8 @@ fn numbers(heap: Global, words: &[u32]) -> Result<Numbers, AllocError> {
 
 // What the second reader answers.
 pub(crate) fn second(heap: Global, words: &[u32]) -> Result<Outcome, AllocError> {
-    match first_complaint(words) {
-        Some(complaint) => Ok(Outcome::Refused(complaint.refusal())),
-        None => Ok(Outcome::Read(numbers(heap, words)?)),
+    match judge(words) {
+        Ok(()) => Ok(Ok(numbers(heap, words)?)),
+        Err(complaint) => Ok(Err(complaint.into())),
     }
 }

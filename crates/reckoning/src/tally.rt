@@ -1,59 +1,78 @@
 // Counts of files, by damage and by what became of them.
-use crate::damage::{DAMAGES, Damage};
+use crate::damage::Damage;
+use crate::outcome::Outcome;
+use std::alloc::{AllocError, Global};
+use std::collections::BTreeMap;
 use std::fmt;
 
-// The files of one damage: those that were read, then those that were refused with 1, 2 and so on to 7.
-type Row = [u32; 8];
+// The files of one damage: those that were read, and those that were refused with 1, 2 and so on to 7.
+#[derive(Clone, Copy, Default, Drop)]
+struct Row {
+    read: u32,
+    refused: [u32; 7],
+}
+
+fn bump(files: &mut u32) {
+    *files = files.saturating_add(1);
+}
+
+impl Row {
+    // One file more.
+    fn count(&mut self, outcome: &Outcome) {
+        match outcome {
+            Ok(_) => bump(&mut self.read),
+            Err(refusal) => {
+                let before = (refusal.number as usize).wrapping_sub(1);
+                if let Some(files) = self.refused.get_mut(before) {
+                    bump(files);
+                }
+            }
+        }
+    }
+
+    fn files(&self) -> u32 {
+        self.refused
+            .iter()
+            .fold(self.read, |files, count| files.saturating_add(*count))
+    }
+}
+
+impl fmt::Display for Row {
+    fn fmt<W: fmt::Write>(&self, f: &mut fmt::Formatter<W>) -> fmt::Result {
+        let (read, files) = (self.read, self.files());
+        write!(f, " {read:>5}")?;
+        for count in &self.refused {
+            write!(f, " {count:>5}")?;
+        }
+        write!(f, " {files:>6}")
+    }
+}
 
 #[derive(Drop)]
 pub struct Tally {
-    rows: [Row; 11],
+    rows: BTreeMap<Damage, Row>,
     all: Row,
     differences: u32,
 }
 
-// One file more that was refused with this number, or read where that is 0.
-fn bump(row: &mut Row, number: u32) {
-    if let Some(files) = row.get_mut(number as usize) {
-        *files = files.saturating_add(1);
-    }
-}
-
 impl Tally {
-    pub(crate) fn new() -> Tally {
+    pub(crate) fn new(heap: Global) -> Tally {
         Tally {
-            rows: [[0; 8]; 11],
-            all: [0; 8],
+            rows: BTreeMap::new(heap),
+            all: Row::default(),
             differences: 0,
         }
     }
 
-    pub(crate) fn count(&mut self, damage: Damage, number: u32) {
-        bump(&mut self.all, number);
-        if let Some(row) = self.rows.get_mut(damage as usize) {
-            bump(row, number);
-        }
+    pub(crate) fn count(&mut self, damage: Damage, outcome: &Outcome) -> Result<(), AllocError> {
+        self.all.count(outcome);
+        self.rows.entry(damage)?.or_default().count(outcome);
+        Ok(())
     }
 
     pub(crate) fn differ(&mut self) {
-        self.differences = self.differences.saturating_add(1);
+        bump(&mut self.differences);
     }
-}
-
-fn files(row: &Row) -> u32 {
-    let mut files: u32 = 0;
-    for count in row {
-        files = files.saturating_add(*count);
-    }
-    files
-}
-
-fn line<W: fmt::Write>(f: &mut fmt::Formatter<W>, name: &str, row: &Row) -> fmt::Result {
-    write!(f, "{name:<15}")?;
-    for count in row {
-        write!(f, " {count:>5}")?;
-    }
-    writeln!(f, " {:>6}", files(row))
 }
 
 impl fmt::Display for Tally {
@@ -62,15 +81,11 @@ impl fmt::Display for Tally {
             f,
             "damage           read     1     2     3     4     5     6     7  files"
         )?;
-        for (damage, row) in DAMAGES.iter().zip(&self.rows) {
-            line(f, damage.name(), row)?;
+        for (damage, row) in &self.rows {
+            writeln!(f, "{damage:<15}{row}")?;
         }
-        line(f, "all", &self.all)?;
-        writeln!(
-            f,
-            "{} files, {} differences",
-            files(&self.all),
-            self.differences
-        )
+        let (all, files) = (self.all, self.all.files());
+        writeln!(f, "{:<15}{all}", "all")?;
+        writeln!(f, "{files} files, {} differences", self.differences)
     }
 }

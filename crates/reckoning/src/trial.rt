@@ -1,8 +1,8 @@
 // Hands files to both readers and compares what they answer.
 ghost use Rattle.std.specs.Prelude.{◌≡◌, true, is_some};
 
-use crate::damage::Damage;
-use crate::outcome::Outcome;
+use crate::damage::{Damage, File};
+use crate::outcome::{Outcome, proved};
 use crate::sweep::second;
 use crate::tally::Tally;
 use std::alloc::{AllocError, Global};
@@ -19,17 +19,27 @@ pub struct Difference {
 
 impl fmt::Display for Difference {
     fn fmt<W: fmt::Write>(&self, f: &mut fmt::Formatter<W>) -> fmt::Result {
-        writeln!(
-            f,
-            "first difference, {}, {} words:",
-            self.damage.name(),
-            self.words.len()
-        )?;
-        for word in self.words.iter() {
+        let (damage, count) = (self.damage, self.words.len());
+        writeln!(f, "first difference, {damage}, {count} words:")?;
+        for word in &self.words {
             write!(f, "{word:08X} ")?;
         }
-        writeln!(f, "\nproved reader: {:?}", self.proved)?;
-        writeln!(f, "second reader: {:?}", self.second)
+        let (proved, second) = (Answer(&self.proved), Answer(&self.second));
+        writeln!(f, "\nproved reader: {proved}")?;
+        writeln!(f, "second reader: {second}")
+    }
+}
+
+// An outcome as it is told.
+#[derive(Clone, Copy)]
+struct Answer<'a>(&'a Outcome);
+
+impl fmt::Display for Answer<'_> {
+    fn fmt<W: fmt::Write>(&self, f: &mut fmt::Formatter<W>) -> fmt::Result {
+        match self.0 {
+            Ok(numbers) => write!(f, "Read({numbers:?})"),
+            Err(refusal) => write!(f, "Refused({refusal:?})"),
+        }
     }
 }
 
@@ -44,7 +54,7 @@ impl Trial {
     pub(crate) fn new(heap: Global) -> Trial {
         Trial {
             heap,
-            tally: Tally::new(),
+            tally: Tally::new(heap),
             first: None,
         }
     }
@@ -65,9 +75,9 @@ impl Trial {
     pub(crate) fn file(&mut self, damage: Damage, words: &[u32]) -> Result<(), AllocError>
         ensures { is_some self.old.first ≡ true → is_some self.new.first ≡ true }
     {
-        let proved = Outcome::proved(self.heap, words)?;
+        let proved = proved(self.heap, words)?;
         let second = second(self.heap, words)?;
-        self.tally.count(damage, second.number());
+        self.tally.count(damage, &second)?;
         if proved == second {
             return Ok(());
         }
