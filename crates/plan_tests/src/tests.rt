@@ -1,139 +1,77 @@
 // What reading answers to files whose answers are known.
-use plan::Plan;
+use cases::two_task;
+use plan::{Channel, Plan, Task};
 use std::alloc::{AllocError, Global};
 use std::test::Fail;
 use words::{Layer, Refusal};
 
-const TWO_TASKS: [u32; 14] = [
-    0x2000_0002,
-    4,
-    12,
-    100,
-    0x4000_0002,
-    60,
-    40,
-    0x6000_000A,
-    20,
-    0x6000_0006,
-    30,
-    0x8000_0018,
-    1,
-    0xE000_000D,
-];
-
-// What became of a file.
+// What there is of a plan that was read.
 #[derive(Clone, Copy, Debug, PartialEq, Eq)]
-enum Verdict {
-    Read { tasks: usize, channels: usize },
-    Refused(u32, Layer, usize),
-    NoMemory,
+struct Counts {
+    tasks: usize,
+    channels: usize,
 }
 
-fn answer(heap: Global, words: &[u32]) -> Verdict {
+type Verdict = Result<Counts, Refusal>;
+
+fn answer(heap: Global, words: &[u32]) -> Result<Verdict, AllocError> {
     match Plan::read(heap, words) {
-        Ok(plan) => Verdict::Read {
+        Ok(plan) => Ok(Ok(Counts {
             tasks: plan.tasks().len(),
             channels: plan.channels().len(),
-        },
-        Err(error) => match error.refusal() {
-            Some(refusal) => Verdict::Refused(refusal.number, refusal.layer, refusal.place),
-            None => Verdict::NoMemory,
-        },
+        })),
+        Err(error) => Ok(Err(error.refusal().ok_or(AllocError)?)),
     }
+}
+
+fn refused(number: u32, layer: Layer, place: usize) -> Verdict {
+    Err(Refusal {
+        number,
+        layer,
+        place,
+    })
 }
 
 fn in_words(number: u32, place: usize) -> Verdict {
-    Verdict::Refused(number, Layer::Words, place)
+    refused(number, Layer::Words, place)
 }
 
 fn in_records(number: u32, place: usize) -> Verdict {
-    Verdict::Refused(number, Layer::Records, place)
+    refused(number, Layer::Records, place)
 }
 
 // The file of the two-task plan with a fault or more: the words that are changed, each by its place, how many words are
-// kept, and the number, the layer and the place of the refusal.
+// kept, and what is answered.
 #[derive(Clone, Copy)]
-struct Case(&'static [(usize, u32)], usize, u32, Layer, usize);
+struct Case {
+    changes: &'static [(usize, u32)],
+    kept: usize,
+    verdict: Verdict,
+}
 
-const CASES: [Case; 24] = [
-    // each refusal alone
-    Case(&[], 12, 1, Layer::Words, 12),
-    Case(&[(9, 0xA000_0000)], 14, 2, Layer::Words, 9),
-    Case(&[(7, 0x8000_0018)], 14, 2, Layer::Words, 7),
-    Case(&[(8, 0xE000_0008)], 14, 2, Layer::Words, 8),
-    Case(&[(0, 0x2000_0000)], 14, 3, Layer::Records, 0),
-    Case(&[(12, 0x0000_1000)], 14, 3, Layer::Records, 12),
-    Case(&[(12, 0x0000_0040)], 14, 5, Layer::Records, 12),
-    Case(&[(12, 0x0000_0002)], 14, 5, Layer::Records, 12),
-    Case(&[(6, 0x0000_0029)], 14, 6, Layer::Records, 4),
-    Case(&[(13, 0xE000_000C)], 14, 7, Layer::Records, 13),
-    Case(&[(9, 0xE000_0009)], 14, 7, Layer::Records, 9),
-    // two in one record, where the lower number decides
-    Case(
-        &[(0, 0x2000_0009), (2, 0x4000_000C)],
-        14,
-        2,
-        Layer::Words,
-        2,
-    ),
-    Case(&[(0, 0x2000_0009), (2, 0x4000_000C)], 3, 1, Layer::Words, 3),
-    Case(
-        &[(5, 0x0000_0000), (6, 0x0000_0065)],
-        14,
-        3,
-        Layer::Records,
-        5,
-    ),
-    Case(
-        &[(11, 0x8000_0000), (12, 0x0000_0040)],
-        14,
-        3,
-        Layer::Records,
-        11,
-    ),
-    // two words against one rule, where the earlier decides
-    Case(
-        &[(7, 0x6000_0000), (8, 0x0001_0000)],
-        14,
-        3,
-        Layer::Records,
-        7,
-    ),
-    // the opening word before its record is measured
-    Case(&[(0, 0x4000_0002)], 1, 2, Layer::Words, 0),
-    // counts of regions that are measured by, whether or not there may be so many
-    Case(&[(4, 0x4000_0000)], 14, 3, Layer::Records, 4),
-    Case(&[(4, 0x4000_0008)], 14, 2, Layer::Words, 7),
-    Case(&[(4, 0x4000_0009)], 14, 2, Layer::Words, 7),
-    Case(&[(4, 0x4000_000A)], 14, 1, Layer::Words, 14),
-    Case(&[(4, 0x5FFF_FFFF)], 14, 1, Layer::Words, 14),
-    // faults of two records, where the earlier record decides
-    Case(
-        &[(12, 0x0000_0041), (13, 0xE000_000E)],
-        14,
-        5,
-        Layer::Records,
-        12,
-    ),
-    Case(
-        &[(7, 0x6000_0000), (12, 0x8000_0000)],
-        14,
-        3,
-        Layer::Records,
-        7,
-    ),
-];
-
-// The two-task file with some words changed, cut to this length.
-fn changed(heap: Global, changes: &[(usize, u32)], length: usize) -> Result<Vec<u32>, AllocError> {
-    let mut words = Vec::from_slice(heap, &TWO_TASKS)?;
-    for (place, word) in changes {
-        if let Some(old) = words.get_mut(*place) {
-            *old = *word;
+impl Case {
+    fn of(changes: &'static [(usize, u32)], verdict: Verdict) -> Case {
+        Case {
+            changes,
+            kept: 14,
+            verdict,
         }
     }
-    words.truncate(length);
-    Ok(words)
+
+    fn cut(self, kept: usize) -> Case {
+        Case { kept, ..self }
+    }
+
+    fn answer(&self, heap: Global) -> Result<Verdict, AllocError> {
+        let mut words = Vec::from_slice(heap, two_task())?;
+        for (place, word) in self.changes {
+            if let Some(old) = words.get_mut(*place) {
+                *old = *word;
+            }
+        }
+        words.truncate(self.kept);
+        answer(heap, &words)
+    }
 }
 
 // The first words of a plan: a machine, and regions of these sizes that are told to be so many.
@@ -161,7 +99,7 @@ fn ended(mut words: Vec<u32>) -> Result<Vec<u32>, AllocError> {
 fn with_regions(heap: Global, told: u32, sizes: &[u32]) -> Result<Verdict, AllocError> {
     let mut words = begun(heap, told, sizes)?;
     repeat(&mut words, [0x6000_000A, 20], 1)?;
-    Ok(answer(heap, &ended(words)?))
+    answer(heap, &ended(words)?)
 }
 
 // A plan of so many tasks and of so many channels between the first two.
@@ -169,12 +107,12 @@ fn with_counts(heap: Global, tasks: usize, channels: usize) -> Result<Verdict, A
     let mut words = begun(heap, 1, &[100])?;
     repeat(&mut words, [0x6000_0001, 0], tasks)?;
     repeat(&mut words, [0x8000_0001, 1], channels)?;
-    Ok(answer(heap, &ended(words)?))
+    answer(heap, &ended(words)?)
 }
 
 #[test]
 fn the_two_task_plan_is_read_with_its_numbers(rt: HostRuntime) -> Result<(), Fail> {
-    let Ok(plan) = Plan::read(rt.alloc(), &TWO_TASKS) else {
+    let Ok(plan) = Plan::read(rt.alloc(), two_task()) else {
         return Err(Fail::new("no plan"));
     };
     assert_eq!(rt;
@@ -183,21 +121,29 @@ fn the_two_task_plan_is_read_with_its_numbers(rt: HostRuntime) -> Result<(), Fai
     );
     assert_eq!(rt; plan.scratchpad(), 100);
     assert_eq!(rt; plan.regions(), &[60, 40][..]);
-    assert!(rt; plan.tasks().len() == 2);
-    let (first, second) = (plan.tasks()[0], plan.tasks()[1]);
-    assert_eq!(rt;
-        (first.limit, first.local, second.limit, second.local),
-        (10, 20, 6, 30)
-    );
-    assert!(rt; plan.channels().len() == 1);
-    let channel = plan.channels()[0];
-    assert_eq!(rt; (channel.from, channel.to, channel.bytes), (0, 1, 24));
+    let tasks = [
+        Task {
+            limit: 10,
+            local: 20,
+        },
+        Task {
+            limit: 6,
+            local: 30,
+        },
+    ];
+    assert_eq!(rt; plan.tasks(), &tasks[..]);
+    let channel = Channel {
+        from: 0,
+        to: 1,
+        bytes: 24,
+    };
+    assert_eq!(rt; plan.channels(), &[channel][..]);
     Ok(())
 }
 
 #[test]
 fn lengths_and_needs_of_the_two_task_plan(rt: HostRuntime) -> Result<(), Fail> {
-    let Ok(plan) = Plan::read(rt.alloc(), &TWO_TASKS) else {
+    let Ok(plan) = Plan::read(rt.alloc(), two_task()) else {
         return Err(Fail::new("no plan"));
     };
     assert_eq!(rt;
@@ -217,22 +163,50 @@ fn lengths_and_needs_of_the_two_task_plan(rt: HostRuntime) -> Result<(), Fail> {
 }
 
 #[test]
-fn the_empty_file_and_every_prefix_end_too_soon(rt: HostRuntime) {
-    for length in 0..TWO_TASKS.len() {
-        assert_eq!(rt;
-            answer(rt.alloc(), &TWO_TASKS[0..length]),
-            in_words(1, length)
-        );
+fn the_empty_file_and_every_prefix_end_too_soon(rt: HostRuntime) -> Result<(), Fail> {
+    for length in 0..two_task().len() {
+        let case = Case::of(&[], in_words(1, length)).cut(length);
+        assert_eq!(rt; case.answer(rt.alloc())?, case.verdict);
     }
+    Ok(())
 }
 
 #[test]
 fn the_lowest_rule_of_the_first_faulty_record_decides(rt: HostRuntime) -> Result<(), Fail> {
-    for (index, case) in CASES.iter().enumerate() {
-        let Case(changes, length, number, layer, place) = *case;
-        let words = changed(rt.alloc(), changes, length)?;
-        let expected = Verdict::Refused(number, layer, place);
-        assert_eq!(rt; answer(rt.alloc(), &words), expected, "case {index}");
+    let cases = [
+        // each refusal alone
+        Case::of(&[], in_words(1, 12)).cut(12),
+        Case::of(&[(9, 0xA000_0000)], in_words(2, 9)),
+        Case::of(&[(7, 0x8000_0018)], in_words(2, 7)),
+        Case::of(&[(8, 0xE000_0008)], in_words(2, 8)),
+        Case::of(&[(0, 0x2000_0000)], in_records(3, 0)),
+        Case::of(&[(12, 0x0000_1000)], in_records(3, 12)),
+        Case::of(&[(12, 0x0000_0040)], in_records(5, 12)),
+        Case::of(&[(12, 0x0000_0002)], in_records(5, 12)),
+        Case::of(&[(6, 0x0000_0029)], in_records(6, 4)),
+        Case::of(&[(13, 0xE000_000C)], in_records(7, 13)),
+        Case::of(&[(9, 0xE000_0009)], in_records(7, 9)),
+        // two in one record, where the lower number decides
+        Case::of(&[(0, 0x2000_0009), (2, 0x4000_000C)], in_words(2, 2)),
+        Case::of(&[(0, 0x2000_0009), (2, 0x4000_000C)], in_words(1, 3)).cut(3),
+        Case::of(&[(5, 0x0000_0000), (6, 0x0000_0065)], in_records(3, 5)),
+        Case::of(&[(11, 0x8000_0000), (12, 0x0000_0040)], in_records(3, 11)),
+        // two words against one rule, where the earlier decides
+        Case::of(&[(7, 0x6000_0000), (8, 0x0001_0000)], in_records(3, 7)),
+        // the opening word before its record is measured
+        Case::of(&[(0, 0x4000_0002)], in_words(2, 0)).cut(1),
+        // counts of regions that are measured by, whether or not there may be so many
+        Case::of(&[(4, 0x4000_0000)], in_records(3, 4)),
+        Case::of(&[(4, 0x4000_0008)], in_words(2, 7)),
+        Case::of(&[(4, 0x4000_0009)], in_words(2, 7)),
+        Case::of(&[(4, 0x4000_000A)], in_words(1, 14)),
+        Case::of(&[(4, 0x5FFF_FFFF)], in_words(1, 14)),
+        // faults of two records, where the earlier record decides
+        Case::of(&[(12, 0x0000_0041), (13, 0xE000_000E)], in_records(5, 12)),
+        Case::of(&[(7, 0x6000_0000), (12, 0x8000_0000)], in_records(3, 7)),
+    ];
+    for (index, case) in cases.iter().enumerate() {
+        assert_eq!(rt; case.answer(rt.alloc())?, case.verdict, "case {index}");
     }
     Ok(())
 }
@@ -240,9 +214,9 @@ fn the_lowest_rule_of_the_first_faulty_record_decides(rt: HostRuntime) -> Result
 #[test]
 fn words_after_the_end_are_refused_at_the_end_word(rt: HostRuntime) -> Result<(), Fail> {
     for word in [0, 0x6000_000A, 0xE000_000E] {
-        let mut words = Vec::from_slice(rt.alloc(), &TWO_TASKS)?;
+        let mut words = Vec::from_slice(rt.alloc(), two_task())?;
         words.push(word)?;
-        assert_eq!(rt; answer(rt.alloc(), &words), in_records(7, 13));
+        assert_eq!(rt; answer(rt.alloc(), &words)?, in_records(7, 13));
     }
     Ok(())
 }
@@ -250,10 +224,10 @@ fn words_after_the_end_are_refused_at_the_end_word(rt: HostRuntime) -> Result<()
 #[test]
 fn a_plan_has_one_to_eight_regions(rt: HostRuntime) -> Result<(), Fail> {
     let heap = rt.alloc();
-    let read = Verdict::Read {
+    let read = Ok(Counts {
         tasks: 1,
         channels: 0,
-    };
+    });
     assert_eq!(rt; with_regions(heap, 0, &[])?, in_records(3, 4));
     assert_eq!(rt; with_regions(heap, 1, &[100])?, read);
     assert_eq!(rt; with_regions(heap, 8, &[12; 8])?, read);
@@ -268,10 +242,10 @@ fn a_plan_has_one_to_eight_regions(rt: HostRuntime) -> Result<(), Fail> {
 #[test]
 fn a_plan_has_one_to_64_tasks(rt: HostRuntime) -> Result<(), Fail> {
     let heap = rt.alloc();
-    let most = Verdict::Read {
+    let most = Ok(Counts {
         tasks: 64,
         channels: 0,
-    };
+    });
     assert_eq!(rt; with_counts(heap, 0, 0)?, in_words(2, 6));
     assert_eq!(rt; with_counts(heap, 64, 0)?, most);
     assert_eq!(rt; with_counts(heap, 65, 0)?, in_records(4, 134));
@@ -281,10 +255,10 @@ fn a_plan_has_one_to_64_tasks(rt: HostRuntime) -> Result<(), Fail> {
 #[test]
 fn a_plan_has_at_most_256_channels(rt: HostRuntime) -> Result<(), Fail> {
     let heap = rt.alloc();
-    let most = Verdict::Read {
+    let most = Ok(Counts {
         tasks: 2,
         channels: 256,
-    };
+    });
     assert_eq!(rt; with_counts(heap, 2, 256)?, most);
     assert_eq!(rt; with_counts(heap, 2, 257)?, in_records(4, 522));
     Ok(())

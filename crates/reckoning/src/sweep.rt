@@ -1,6 +1,6 @@
 // The second reader. It goes over the words once, one by one, and keeps the gravest complaint about the record
 // that it is in; it decides where the record is whole. The numbers are picked out of an accepted file by their places.
-ghost use Rattle.std.specs.Prelude.{◌≡◌, ◌/◌, ◌%◌, ◌≤◌, true, is_some, slice_index};
+ghost use Rattle.std.specs.Prelude.{◌≡◌, ◌/◌, ◌%◌, ◌≤◌, IfOk, true, is_some, slice_index};
 ghost use Rattle.std.specs.Range.{range_inclusive_start, range_inclusive_end};
 
 use crate::outcome::{Numbers, Outcome};
@@ -119,7 +119,9 @@ impl Sweep<'_> {
     }
 
     // The record that this word opens behind the one before.
-    fn open(&mut self, place: usize, word: u32) -> Result<Record, Complaint> {
+    fn open(&mut self, place: usize, word: u32) -> Result<Record, Complaint>
+        ensures { IfOk result (λ r. r.opened ≡ place) }
+    {
         let before = self.record.map(|record| record.part);
         let part = match Part::try_from(word) {
             Ok(part) if part.follows(before) => part,
