@@ -25,5 +25,5 @@ worked = record {
   cramped_totals = refl;
 }
 
-pub returns : goal.returns
-returns c = record { words = refl; cases = worked }
+pub returns-clause-cases : goal.returns-clause-cases
+returns-clause-cases c = worked
