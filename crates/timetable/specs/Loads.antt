@@ -1,6 +1,8 @@
 -- Which words the bytes of a file give.
 use Rattle.std.specs.Prelude.{◌≡◌, ℕ, Bool, true, false, List, ◌++◌, length, is_ok, Ok, Err, vec_items, codes, Result, Vec, ◌≢◌}
 use Rattle.std.specs.declared.alloc.Global.{Global}
+use Rattle.hex_text.specs.declared.HexError.{HexError}
+use Rattle.hex_text.specs.declared.HexError.TheVariants as hex
 use Rattle.hex_text.specs.Scan.{words_in_text}
 use Rattle.words.specs.Bytes.{words_in}
 use Rattle.timetable.specs.declared.load.LoadError.{LoadError}
@@ -10,6 +12,11 @@ use Rattle.timetable.specs.declared.load.LoadError.TheVariants.{NoMemory, Unread
 abbrev pub Text : List ℕ → Bool → Type 0
 Text name true = (front : List ℕ) × (name ≡ front ++ codes ".hex")
 Text name false = (front : List ℕ) → name ≢ front ++ codes ".hex"
+
+-- why a text gives no words
+abbrev pub of_text : HexError → LoadError
+of_text hex.NoMemory = NoMemory
+of_text (hex.Token line column) = Token line column
 
 -- r is the words of a text, or where a token is that is no word
 abbrev pub FromText : List ℕ → Result (Vec ℕ Global) LoadError → Type 0

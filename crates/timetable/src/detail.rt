@@ -6,7 +6,6 @@ use words::{Kind, Opening, Record};
 
 #[derive(Clone, Copy)]
 pub enum Detail {
-    Nothing,
     // A word of one of these kinds is due, or a plain one where there is no kind. The word that is there, if any.
     Due {
         kinds: &'static [Kind],
@@ -26,33 +25,32 @@ pub enum Detail {
 }
 
 impl Detail {
-    // What these words show of their fault.
-    pub(crate) fn of(words: &[u32], fault: Fault) -> Detail {
+    // What these words show of their fault, if anything.
+    pub(crate) fn of(words: &[u32], fault: Fault) -> Option<Detail> {
         let place = fault.refusal().place;
-        match Spot::of(words, place) {
-            Spot::Open(kinds) => Detail::Due {
-                kinds,
-                word: words.get(place).copied(),
-            },
-            Spot::Within { record, offset } => in_record(record, offset, place, fault),
+        let (record, offset) = match Spot::of(words, place) {
+            Spot::Within { record, offset } => (record, offset),
+            Spot::Open(kinds) => {
+                let word = words.get(place).copied();
+                return Some(Detail::Due { kinds, word });
+            }
+        };
+        match (fault, record) {
+            (Fault::Range { .. }, _) => Some(Detail::Rule(range(record, offset))),
+            (Fault::TooMany { .. }, Record::Task { .. }) => {
+                Some(Detail::Rule("a plan has at most 64 tasks"))
+            }
+            (Fault::TooMany { .. }, _) => Some(Detail::Rule("a plan has at most 256 channels")),
+            (Fault::Pair { .. }, Record::Channel { pair, .. }) => Some(Detail::Pair {
+                from: pair / 64,
+                to: pair % 64,
+            }),
+            (Fault::End { .. }, Record::End { count }) => Some(Detail::Count {
+                told: count,
+                before: place,
+            }),
+            _ => None,
         }
-    }
-}
-
-fn in_record(record: Record<'_>, offset: usize, place: usize, fault: Fault) -> Detail {
-    match (fault, record) {
-        (Fault::Range { .. }, _) => Detail::Rule(range(record, offset)),
-        (Fault::TooMany { .. }, Record::Task { .. }) => Detail::Rule("a plan has at most 64 tasks"),
-        (Fault::TooMany { .. }, _) => Detail::Rule("a plan has at most 256 channels"),
-        (Fault::Pair { .. }, Record::Channel { pair, .. }) => Detail::Pair {
-            from: pair / 64,
-            to: pair % 64,
-        },
-        (Fault::End { .. }, Record::End { count }) => Detail::Count {
-            told: count,
-            before: place,
-        },
-        _ => Detail::Nothing,
     }
 }
 
@@ -76,49 +74,45 @@ fn range(record: Record<'_>, offset: usize) -> &'static str {
 impl fmt::Display for Detail {
     fn fmt<W: fmt::Write>(&self, f: &mut fmt::Formatter<W>) -> fmt::Result {
         match *self {
-            Detail::Nothing => Ok(()),
             Detail::Due { kinds, word } => {
-                show_word(word, f)?;
-                show_kinds(kinds, f)
+                if let Some(word) = word {
+                    let found = Sort(Opening::of(word).map(|opening| opening.kind));
+                    write!(f, "{word:08X} is {found}, due is ")?;
+                }
+                let first = Sort(kinds.first().copied());
+                write!(f, "{first}")?;
+                for kind in kinds.iter().skip(1) {
+                    write!(f, " or {}", Sort(Some(*kind)))?;
+                }
+                Ok(())
             }
-            Detail::Rule(rule) => write!(f, ": {rule}"),
-            Detail::Pair { from, to } => write!(f, ": it goes from {from} to {to}"),
+            Detail::Rule(rule) => f.write_str(rule),
+            Detail::Pair { from, to } => write!(f, "it goes from {from} to {to}"),
             Detail::Count { told, before } if told as usize == before => f.write_str(
-                ": words follow it",
+                "words follow it",
             ),
-            Detail::Count { told, before } => write!(
-                f,
-                ": it counts {told} words before it, and there are {before}"
-            ),
+            Detail::Count { told, before } => {
+                write!(
+                    f,
+                    "it counts {told} words before it, and there are {before}"
+                )
+            }
         }
     }
 }
 
-// The word that stands where another is due.
-fn show_word<W: fmt::Write>(word: Option<u32>, f: &mut fmt::Formatter<W>) -> fmt::Result {
-    let Some(word) = word else {
-        return f.write_str(": ");
-    };
-    let kind = match Opening::of(word) {
-        Some(opening) => kind_name(opening.kind),
-        None => PLAIN,
-    };
-    write!(f, ": {word:08X} is {kind}, due is ")
-}
+// What a word is by its kind.
+#[derive(Clone, Copy)]
+struct Sort(Option<Kind>);
 
-fn show_kinds<W: fmt::Write>(kinds: &[Kind], f: &mut fmt::Formatter<W>) -> fmt::Result {
-    let [first, others @ ..] = kinds else {
-        return f.write_str(PLAIN);
-    };
-    f.write_str(kind_name(*first))?;
-    for kind in others {
-        f.write_str(" or ")?;
-        f.write_str(kind_name(*kind))?;
+impl fmt::Display for Sort {
+    fn fmt<W: fmt::Write>(&self, f: &mut fmt::Formatter<W>) -> fmt::Result {
+        match self.0 {
+            Some(kind) => f.write_str(kind_name(kind)),
+            None => f.write_str("a plain word"),
+        }
     }
-    Ok(())
 }
-
-const PLAIN: &str = "a plain word";
 
 fn kind_name(kind: Kind) -> &'static str {
     match kind {

@@ -1,9 +1,10 @@
 // Loads the words of a file.
-ghost use Rattle.timetable.specs.Loads.{Text, FromText, FromRaw};
+ghost use Rattle.std.specs.Prelude.{◌≡◌};
+ghost use Rattle.timetable.specs.Loads.{Text, FromText, FromRaw, of_text};
 
 use hex_text::{HexError, from_hex};
 use std::alloc::Global;
-use std::{fs, io};
+use std::{fmt, fs, io};
 use words::{BytesError, Fault, from_bytes};
 
 // Why a file gives no words.
@@ -26,6 +27,36 @@ impl From<io::Error> for LoadError {
     }
 }
 
+impl From<HexError> for LoadError {
+    ghost from_gives = { λ e r. r ≡ of_text e };
+
+    fn from(e: HexError) -> LoadError {
+        match e {
+            HexError::NoMemory => LoadError::NoMemory,
+            HexError::Token { line, column } => LoadError::Token { line, column },
+        }
+    }
+}
+
+impl fmt::Display for LoadError {
+    fn fmt<W: fmt::Write>(&self, f: &mut fmt::Formatter<W>) -> fmt::Result {
+        match self {
+            LoadError::NoMemory => f.write_str("not read: out of memory"),
+            LoadError::Unreadable(e) => write!(f, "can't be read: {e}"),
+            LoadError::Cut { bytes, .. } => write!(f, "the last word has {} of 4 bytes", bytes % 4),
+            LoadError::Token { line, column } => {
+                let (line, column) = (*line, *column);
+                let token = HexError::Token { line, column };
+                let _ = token;
+                write!(
+                    f,
+                    "not words: line {line}, column {column}: a word is eight hexadecimal digits"
+                )
+            }
+        }
+    }
+}
+
 // Whether a file of this name is text.
 fn is_text(name: &str) -> bool
     ensures { Text name.now result }
@@ -36,24 +67,19 @@ fn is_text(name: &str) -> bool
 fn decode_text(heap: Global, text: &[u8]) -> Result<Vec<u32>, LoadError>
     ensures { FromText text.now result }
 {
-    match from_hex(heap, text) {
-        Ok(words) => Ok(words),
-        Err(HexError::NoMemory) => Err(LoadError::NoMemory),
-        Err(HexError::Token { line, column }) => Err(LoadError::Token { line, column }),
-    }
+    Ok(from_hex(heap, text)?)
 }
 
 fn decode_raw(heap: Global, bytes: &[u8]) -> Result<Vec<u32>, LoadError>
     ensures { FromRaw bytes.now result }
 {
-    match from_bytes(heap, bytes) {
-        Ok(words) => Ok(words),
-        Err(BytesError::NoMemory) => Err(LoadError::NoMemory),
-        Err(BytesError::Cut(fault)) => Err(LoadError::Cut {
+    from_bytes(heap, bytes).map_err(|e| match e {
+        BytesError::NoMemory => LoadError::NoMemory,
+        BytesError::Cut(fault) => LoadError::Cut {
             bytes: bytes.len(),
             fault,
-        }),
-    }
+        },
+    })
 }
 
 // The words of the file of this name.

@@ -42,7 +42,12 @@ pub(crate) fn tell_plans(rt: &HostRuntime, files: &[String]) -> Result<(), Faile
         if i > 0 {
             writeln!(out)?;
         }
-        if tell_file(rt, &mut out, file.as_str())? == Outcome::Refused {
+        let mut report = Report {
+            rt,
+            out: &mut out,
+            name: file.as_str(),
+        };
+        if report.file()? == Outcome::Refused {
             answer = Err(Failed);
         }
     }
@@ -50,84 +55,87 @@ pub(crate) fn tell_plans(rt: &HostRuntime, files: &[String]) -> Result<(), Faile
     answer
 }
 
-fn tell_file<W: Write>(rt: &HostRuntime, out: &mut W, name: &str) -> io::Result<Outcome> {
-    match load(rt, name) {
-        Ok(words) => tell_words(rt, out, name, words.as_slice()),
-        Err(LoadError::Cut { bytes, fault }) => tell_cut(out, name, bytes, Fault::Words(fault)),
-        Err(LoadError::Token { line, column }) => {
-            writeln!(
-                out,
-                "{name}: not words: line {line}, column {column}: a word is eight hexadecimal digits"
-            )?;
-            Ok(Outcome::Refused)
-        }
-        Err(LoadError::NoMemory) => tell_no_memory(rt, out, name),
-        Err(LoadError::Unreadable(e)) => {
-            // What is held back comes first.
-            out.flush()?;
-            eprintln!(rt; "{name}: can't be read: {e}")?;
-            Ok(Outcome::Unread)
+// What is told of the file of this name.
+#[derive(Drop)]
+struct Report<'a, W> {
+    rt: &'a HostRuntime,
+    out: &'a mut W,
+    name: &'a str,
+}
+
+impl<W: Write> Report<'_, W> {
+    fn file(&mut self) -> io::Result<Outcome> {
+        match load(self.rt, self.name) {
+            Ok(words) => self.words(words.as_slice()),
+            Err(error) => self.unloaded(error),
         }
     }
-}
 
-fn tell_words<W: Write>(
-    rt: &HostRuntime,
-    out: &mut W,
-    name: &str,
-    words: &[u32],
-) -> io::Result<Outcome> {
-    let count = words.len();
-    writeln!(out, "{name}: {count} words")?;
-    match Plan::read(rt.alloc(), words) {
-        Ok(plan) => tell_plan(out, name, words, &plan),
-        Err(ReadError::Refused(fault)) => tell_refusal(out, name, words, fault),
-        Err(ReadError::NoMemory) => tell_no_memory(rt, out, name),
+    fn unloaded(&mut self, error: LoadError) -> io::Result<Outcome> {
+        let name = self.name;
+        match error {
+            LoadError::Cut { bytes, fault } => {
+                let (count, left) = (bytes / 4, bytes % 4);
+                writeln!(self.out, "{name}: {count} words and {left} bytes")?;
+                let refused = Refused {
+                    name,
+                    fault: Fault::Words(fault),
+                };
+                writeln!(self.out, "{refused}: {error}")?;
+                Ok(Outcome::Refused)
+            }
+            LoadError::Token { .. } => {
+                writeln!(self.out, "{name}: {error}")?;
+                Ok(Outcome::Refused)
+            }
+            LoadError::NoMemory | LoadError::Unreadable(_) => {
+                // What is held back comes first.
+                self.out.flush()?;
+                eprintln!(self.rt; "{name}: {error}")?;
+                Ok(Outcome::Unread)
+            }
+        }
     }
-}
 
-fn tell_plan<W: Write>(out: &mut W, name: &str, words: &[u32], plan: &Plan) -> io::Result<Outcome> {
-    let steps = Steps {
-        words,
-        last: words.len(),
-    };
-    let table = Table(plan);
-    let accepted = Accepted {
-        name,
-        tasks: plan.tasks().len(),
-        channels: plan.channels().len(),
-    };
-    writeln!(out, "{steps}{table}{accepted}")?;
-    Ok(Outcome::Accepted)
-}
+    fn words(&mut self, words: &[u32]) -> io::Result<Outcome> {
+        let (name, count) = (self.name, words.len());
+        writeln!(self.out, "{name}: {count} words")?;
+        match Plan::read(self.rt.alloc(), words) {
+            Ok(plan) => self.plan(words, &plan),
+            Err(ReadError::Refused(fault)) => self.refusal(words, fault),
+            Err(ReadError::NoMemory) => self.unloaded(LoadError::NoMemory),
+        }
+    }
 
-fn tell_refusal<W: Write>(
-    out: &mut W,
-    name: &str,
-    words: &[u32],
-    fault: Fault,
-) -> io::Result<Outcome> {
-    let steps = Steps {
-        words,
-        last: fault.refusal().place,
-    };
-    let refused = Refused { name, fault };
-    let detail = Detail::of(words, fault);
-    writeln!(out, "{steps}{refused}{detail}")?;
-    Ok(Outcome::Refused)
-}
+    fn plan(&mut self, words: &[u32], plan: &Plan) -> io::Result<Outcome> {
+        let steps = Steps {
+            words,
+            last: words.len(),
+        };
+        let table = Table { plan };
+        let accepted = Accepted {
+            name: self.name,
+            tasks: plan.tasks().len(),
+            channels: plan.channels().len(),
+        };
+        writeln!(self.out, "{steps}{table}{accepted}")?;
+        Ok(Outcome::Accepted)
+    }
 
-// The bytes of the file are no whole words.
-fn tell_cut<W: Write>(out: &mut W, name: &str, bytes: usize, fault: Fault) -> io::Result<Outcome> {
-    let (count, left) = (bytes / 4, bytes % 4);
-    let refused = Refused { name, fault };
-    writeln!(out, "{name}: {count} words and {left} bytes")?;
-    writeln!(out, "{refused}: the last word has {left} of 4 bytes")?;
-    Ok(Outcome::Refused)
-}
-
-fn tell_no_memory<W: Write>(rt: &HostRuntime, out: &mut W, name: &str) -> io::Result<Outcome> {
-    out.flush()?;
-    eprintln!(rt; "{name}: not read: out of memory")?;
-    Ok(Outcome::Unread)
+    fn refusal(&mut self, words: &[u32], fault: Fault) -> io::Result<Outcome> {
+        let steps = Steps {
+            words,
+            last: fault.refusal().place,
+        };
+        let refused = Refused {
+            name: self.name,
+            fault,
+        };
+        write!(self.out, "{steps}{refused}")?;
+        if let Some(detail) = Detail::of(words, fault) {
+            write!(self.out, ": {detail}")?;
+        }
+        writeln!(self.out)?;
+        Ok(Outcome::Refused)
+    }
 }

@@ -12,15 +12,7 @@ pub struct Steps<'a> {
 
 impl fmt::Display for Steps<'_> {
     fn fmt<W: fmt::Write>(&self, f: &mut fmt::Formatter<W>) -> fmt::Result {
-        let mut walk = Walk::new(self.words);
-        // Each record has a word at least.
-        for _ in 0..self.words.len() {
-            if walk.place() > self.last {
-                break;
-            }
-            let Some(step) = walk.step() else {
-                break;
-            };
+        for step in Walk::new(self.words).take_while(|step| step.places.start <= self.last) {
             writeln!(f, "{step}")?;
         }
         Ok(())
@@ -29,39 +21,39 @@ impl fmt::Display for Steps<'_> {
 
 impl fmt::Display for Step<'_> {
     fn fmt<W: fmt::Write>(&self, f: &mut fmt::Formatter<W>) -> fmt::Result {
-        let place = self.place;
+        let place = self.places.start;
         write!(f, "  at {place:>4}  ")?;
-        show(self.record, f)
-    }
-}
-
-fn show<W: fmt::Write>(record: Record<'_>, f: &mut fmt::Formatter<W>) -> fmt::Result {
-    match record {
-        Record::Machine {
-            cores,
-            slot_time,
-            slot_load,
-            scratchpad,
-        } => write!(
-            f,
-            "machine   cores {cores}, slot time {slot_time}, slot load {slot_load}, scratchpad {scratchpad}"
-        ),
-        Record::Regions { sizes, .. } => show_regions(sizes, f),
-        Record::Task { limit, local } => write!(f, "task      limit {limit}, local {local}"),
-        Record::Channel { bytes, pair } => {
-            let (from, to) = (pair / 64, pair % 64);
-            write!(f, "channel   bytes {bytes}, from {from} to {to}")
+        match self.record {
+            Record::Machine {
+                cores,
+                slot_time,
+                slot_load,
+                scratchpad,
+            } => write!(
+                f,
+                "machine   cores {cores}, slot time {slot_time}, slot load {slot_load}, scratchpad {scratchpad}"
+            ),
+            Record::Regions { sizes, .. } => write!(f, "regions  {}", Sizes(sizes)),
+            Record::Task { limit, local } => write!(f, "task      limit {limit}, local {local}"),
+            Record::Channel { bytes, pair } => {
+                let (from, to) = (pair / 64, pair % 64);
+                write!(f, "channel   bytes {bytes}, from {from} to {to}")
+            }
+            Record::Exec { start, seat } => write!(f, "exec      start {start}, seat {seat}"),
+            Record::Transfer { start, side } => write!(f, "transfer  start {start}, side {side}"),
+            Record::End { count } => write!(f, "end       after {count} words"),
         }
-        Record::Exec { start, seat } => write!(f, "exec      start {start}, seat {seat}"),
-        Record::Transfer { start, side } => write!(f, "transfer  start {start}, side {side}"),
-        Record::End { count } => write!(f, "end       after {count} words"),
     }
 }
 
-fn show_regions<W: fmt::Write>(sizes: &[u32], f: &mut fmt::Formatter<W>) -> fmt::Result {
-    f.write_str("regions  ")?;
-    for size in sizes {
-        write!(f, " {size}")?;
+#[derive(Clone, Copy)]
+struct Sizes<'a>(&'a [u32]);
+
+impl fmt::Display for Sizes<'_> {
+    fn fmt<W: fmt::Write>(&self, f: &mut fmt::Formatter<W>) -> fmt::Result {
+        for size in self.0 {
+            write!(f, " {size}")?;
+        }
+        Ok(())
     }
-    Ok(())
 }

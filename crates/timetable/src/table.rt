@@ -6,61 +6,64 @@ use plan::Plan;
 use std::fmt;
 
 #[derive(Clone, Copy)]
-pub struct Table<'a>(pub &'a Plan);
+pub struct Table<'a> {
+    pub plan: &'a Plan,
+}
 
 impl fmt::Display for Table<'_> {
     fn fmt<W: fmt::Write>(&self, f: &mut fmt::Formatter<W>) -> fmt::Result {
-        let Table(plan) = *self;
         f.write_str("\n")?;
-        show_board(plan, f)?;
+        self.board(f)?;
         f.write_str("\n")?;
-        show_tasks(plan, f)?;
-        if !plan.channels().is_empty() {
+        self.tasks(f)?;
+        if !self.plan.channels().is_empty() {
             f.write_str("\n")?;
-            show_channels(plan, f)?;
+            self.channels(f)?;
         }
         f.write_str("\n")
     }
 }
 
-fn show_board<W: fmt::Write>(plan: &Plan, f: &mut fmt::Formatter<W>) -> fmt::Result {
-    let (cores, time) = (plan.cores(), plan.slot_time());
-    let (load, scratchpad) = (plan.slot_load(), plan.scratchpad());
-    writeln!(f, "  cores       {cores:>7}")?;
-    writeln!(f, "  slot time   {time:>7} cycles")?;
-    writeln!(f, "  slot load   {load:>7} bytes")?;
-    writeln!(f, "  scratchpad  {scratchpad:>7} bytes")?;
-    for (i, size) in plan.regions().iter().enumerate() {
-        writeln!(f, "  region {i}    {size:>7} bytes")?;
+impl Table<'_> {
+    fn board<W: fmt::Write>(self, f: &mut fmt::Formatter<W>) -> fmt::Result {
+        let (cores, time) = (self.plan.cores(), self.plan.slot_time());
+        let (load, scratchpad) = (self.plan.slot_load(), self.plan.scratchpad());
+        writeln!(f, "  cores       {cores:>7}")?;
+        writeln!(f, "  slot time   {time:>7} cycles")?;
+        writeln!(f, "  slot load   {load:>7} bytes")?;
+        writeln!(f, "  scratchpad  {scratchpad:>7} bytes")?;
+        for (i, size) in self.plan.regions().iter().enumerate() {
+            writeln!(f, "  region {i}    {size:>7} bytes")?;
+        }
+        Ok(())
     }
-    Ok(())
-}
 
-fn show_tasks<W: fmt::Write>(plan: &Plan, f: &mut fmt::Formatter<W>) -> fmt::Result {
-    f.write_str("     task    limit    local     need  fits in\n")?;
-    f.write_str("            cycles    bytes    bytes  region\n")?;
-    for (i, task) in plan.tasks().iter().enumerate() {
-        let (limit, local) = (task.limit, task.local);
-        // Each task of the plan has a need.
-        let need = plan.need(i).unwrap_or(0);
-        let fits = Fits {
-            need,
-            sizes: plan.regions(),
-        };
-        writeln!(f, "  {i:>7}  {limit:>7}  {local:>7}  {need:>7} {fits}")?;
+    fn tasks<W: fmt::Write>(self, f: &mut fmt::Formatter<W>) -> fmt::Result {
+        f.write_str("     task    limit    local     need  fits in\n")?;
+        f.write_str("            cycles    bytes    bytes  region\n")?;
+        for (i, task) in self.plan.tasks().iter().enumerate() {
+            let (limit, local) = (task.limit, task.local);
+            // Each task of the plan has a need.
+            let need = self.plan.need(i).unwrap_or(0);
+            let fits = Fits {
+                need,
+                sizes: self.plan.regions(),
+            };
+            writeln!(f, "  {i:>7}  {limit:>7}  {local:>7}  {need:>7} {fits}")?;
+        }
+        Ok(())
     }
-    Ok(())
-}
 
-fn show_channels<W: fmt::Write>(plan: &Plan, f: &mut fmt::Formatter<W>) -> fmt::Result {
-    f.write_str("  channel    bytes     from       to   on bus\n")?;
-    f.write_str("                       task     task   cycles\n")?;
-    for (i, channel) in plan.channels().iter().enumerate() {
-        let (bytes, from, to) = (channel.bytes, channel.from, channel.to);
-        let cycles = plan.cycles(bytes);
-        writeln!(f, "  {i:>7}  {bytes:>7}  {from:>7}  {to:>7}  {cycles:>7}")?;
+    fn channels<W: fmt::Write>(self, f: &mut fmt::Formatter<W>) -> fmt::Result {
+        f.write_str("  channel    bytes     from       to   on bus\n")?;
+        f.write_str("                       task     task   cycles\n")?;
+        for (i, channel) in self.plan.channels().iter().enumerate() {
+            let (bytes, from, to) = (channel.bytes, channel.from, channel.to);
+            let cycles = self.plan.cycles(bytes);
+            writeln!(f, "  {i:>7}  {bytes:>7}  {from:>7}  {to:>7}  {cycles:>7}")?;
+        }
+        Ok(())
     }
-    Ok(())
 }
 
 // The regions that can hold a task with this need.
@@ -75,12 +78,7 @@ impl Fits<'_> {
     fn none(&self) -> bool
         ensures { TooSmall self.now.need self.now.sizes.now result }
     {
-        for size in self.sizes {
-            if holds(*size, self.need) {
-                return false;
-            }
-        }
-        true
+        !self.sizes.iter().any(|size| holds(*size, self.need))
     }
 }
 
@@ -89,10 +87,9 @@ impl fmt::Display for Fits<'_> {
         if self.none() {
             return f.write_str(" none");
         }
-        for (i, size) in self.sizes.iter().enumerate() {
-            if holds(*size, self.need) {
-                write!(f, " {i}")?;
-            }
+        let sizes = self.sizes.iter().enumerate();
+        for (i, _) in sizes.filter(|(_, size)| holds(**size, self.need)) {
+            write!(f, " {i}")?;
         }
         Ok(())
     }

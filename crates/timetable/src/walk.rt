@@ -1,17 +1,18 @@
 // Walks through a plan file record by record.
 ghost use Rattle.std.specs.Prelude.{◌≡◌, [], ◌∷◌};
 ghost use Rattle.words.specs.declared.kind.Kind.TheVariants.{Machine};
-ghost use Rattle.timetable.specs.Walks.{Steps};
 
+use std::ops::Range;
 use words::{Kind, Reader, Record};
 
-// A record, with the place of its first word.
-#[derive(Clone, Copy)]
+// A record, with the places of its words.
+#[derive(Drop)]
 pub struct Step<'a> {
-    pub place: usize,
+    pub places: Range<usize>,
     pub record: Record<'a>,
 }
 
+// The records from where the reader stands, as long as the words go on with one.
 #[derive(Drop)]
 pub struct Walk<'a> {
     reader: Reader<'a>,
@@ -29,33 +30,28 @@ impl<'a> Walk<'a> {
             kinds: &[Kind::Machine],
         }
     }
+}
 
-    // The place of the next word.
-    pub(crate) fn place(&self) -> usize
-        ensures { result ≡ self.now.reader.place }
-    {
-        self.reader.place()
-    }
+impl<'a> Iterator for Walk<'a> {
+    type Item = Step<'a>;
 
-    // The kinds that may stand there.
-    pub(crate) fn kinds(&self) -> &'static [Kind]
-        ensures { result.now ≡ self.now.kinds.now }
-    {
-        self.kinds
-    }
+    ghost use Rattle.std.specs.Prelude.{length};
+    ghost use Rattle.std.specs.Iterator.{at_most};
+    ghost use Rattle.timetable.specs.Walks.{Steps};
 
-    // The next record, or none where the words do not go on with one.
-    pub(crate) fn step(&mut self) -> Option<Step<'a>>
-        ensures { Steps self.old result self.new }
-    {
-        let place = self.reader.place();
-        match self.reader.record(self.kinds) {
-            Ok(record) => {
-                self.kinds = record.follows();
-                Some(Step { place, record })
-            }
-            Err(_) => None,
-        }
+    ghost next_gives = { Steps };
+
+    // Each record has a word at least.
+    ghost remaining = { λ w. at_most (length w.reader.rest.now) };
+
+    fn next(&mut self) -> Option<Step<'a>> {
+        let start = self.reader.place();
+        let record = self.reader.record(self.kinds).ok()?;
+        self.kinds = record.follows();
+        Some(Step {
+            places: start..self.reader.place(),
+            record,
+        })
     }
 }
 
@@ -71,22 +67,13 @@ pub enum Spot<'a> {
 impl<'a> Spot<'a> {
     pub(crate) fn of(words: &'a [u32], place: usize) -> Spot<'a> {
         let mut walk = Walk::new(words);
-        // Each record has a word at least.
-        for _ in 0..words.len() {
-            let Some(step) = walk.step() else {
-                break;
-            };
-            if step.place <= place && place < walk.place() {
-                return Spot::Within {
-                    record: step.record,
-                    offset: place - step.place,
-                };
-            }
+        match walk.find(|step| step.places.contains(&place)) {
+            Some(step) => Spot::Within {
+                record: step.record,
+                offset: place - step.places.start,
+            },
+            None if walk.reader.place() == place => Spot::Open(walk.kinds),
+            None => Spot::Open(&[]),
         }
-        Spot::Open(if walk.place() == place {
-            walk.kinds()
-        } else {
-            &[]
-        })
     }
 }
