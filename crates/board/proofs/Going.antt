@@ -1,19 +1,25 @@
 -- What stands before each record of a file that is read by rules.
-use Rattle.std.proofs.Common.{◌≡◌, ℕ, ◌+◌, ◌<◌, true, false, List, length, Ok, Err, Result, sym, refl, ap, ◌∙◌, arith}
+use Rattle.std.proofs.Common.{◌≡◌, ℕ, ◌+◌, ◌<◌, true, false, List, length, Ok, Err, Result, refl, ap, ◌∙◌, arith}
 use Rattle.words.specs.declared.fault.Fault.{Fault}
 use Rattle.words.specs.declared.fault.Refusal.{Refusal}
 use Rattle.words.specs.declared.kind.Kind.{Kind}
 use Rattle.words.specs.declared.record.Record.{Record}
 use Rattle.words.specs.declared.record.Record.TheVariants as r
-use Rattle.words.specs.Records.{Said, words_of, Placed, and_then, record_at, follows}
+use Rattle.words.specs.Records.{Said, machine, regions, task, channel, exec, transfer, end, words_of, and_then, record_at, follows}
 use Rattle.words.specs.Seen.{said}
-use Rattle.words.specs.Shown.{shown}
 use Rattle.words.proofs.Taking.{taken_shorter, taken_less}
 use Rattle.board.specs.Files.{Checked, ◌also◌, is_end, closing, told, Rules, walk, next, reads}
 use Rattle.board.proofs.Walking.{next_ok, walk_more, walk_end, walk_fault}
 
-pub placed_at : (place q : ℕ) (x : Said) → q ≡ place → Placed place x → Placed q x
-placed_at place q x a h = rw a h
+-- only an end has to close the file
+no_end : (place left : ℕ) (x : Said) → is_end x ≡ false → closing place left x ≡ Ok tt
+no_end place left (machine c t d s) e = refl
+no_end place left (regions at ns) e = refl
+no_end place left (task limit local) e = refl
+no_end place left (channel bytes pair) e = refl
+no_end place left (exec start seat) e = refl
+no_end place left (transfer start side) e = refl
+no_end place left (end n) e = cc
 
 pub not_end : (x : Record) → ((n : ℕ) → x ≡ r.End n → ⊥) → is_end (said x) ≡ false
 not_end (r.Machine c t d s) h = refl
@@ -33,15 +39,20 @@ module _ {S : Type 0} (r : Rules S) where
   abbrev Checking : S → ℕ → List ℕ → Said × List ℕ → Result (Said × List ℕ) Refusal
   Checking s place rest z = and_then (closing place (length rest) z.0 also r.why s place z.0) (λ _. Ok z)
 
-  -- nothing can be taken
-  pub next_cut : (s : S) (kinds : List Kind) (place : ℕ) (rest : List ℕ) (f : Fault) → record_at kinds place rest ≡ Err f → next r kinds s place rest ≡ Err (shown f)
-  next_cut s kinds place rest f a = ap (λ y. and_then (told y) (Checking s place rest)) a
+  cut_by : (s : S) (place : ℕ) (rest : List ℕ) (f : Refusal) (y : Result (Said × List ℕ) Fault) → and_then (told y) (λ x. closing place (length rest) x.0) ≡ Err f → and_then (told y) (Checking s place rest) ≡ Err f
+  cut_by s place rest f (Ok x) h = rw h refl
+  cut_by s place rest f (Err e) h = ap Err (ap (λ y. elim y [ Ok _ ↦ f | Err d ↦ d ]) h)
 
-  -- a record is taken, and the answer is that of its check, which was asked at this place with so many words left
-  pub next_by : (s : S) (kinds : List Kind) (place q l : ℕ) (rest after : List ℕ) (x : Said) (y : Checked) → q ≡ place → l ≡ length rest → record_at kinds place rest ≡ Ok (x, after) → y ≡ (closing q l x also r.why s q x) → next r kinds s place rest ≡ and_then y (λ _. Ok (x, after))
-  next_by s kinds place q l rest after x y a b t h =
-      let e : (closing place (length rest) x also r.why s place x) ≡ y = rw (← a, ← b) (sym h) in
-      ap (λ y. and_then (told y) (Checking s place rest)) t ∙ ap (λ y. and_then y (λ _. Ok (x, after))) e
+  -- nothing can be taken, or an end does not close the file
+  pub next_cut : (s : S) (kinds : List Kind) (place : ℕ) (rest : List ℕ) (f : Refusal) → and_then (told (record_at kinds place rest)) (λ x. closing place (length rest) x.0) ≡ Err f → next r kinds s place rest ≡ Err f
+  next_cut s kinds place rest f h = cut_by s place rest f (record_at kinds place rest) h
+
+  -- a record that is no end is taken, and the rules, asked at its place, decide
+  pub next_more : (s : S) (kinds : List Kind) (place q : ℕ) (rest after : List ℕ) (x : Said) (y : Checked) → q ≡ place → is_end x ≡ false → record_at kinds place rest ≡ Ok (x, after) → r.why s q x ≡ y → next r kinds s place rest ≡ and_then y (λ _. Ok (x, after))
+  next_more s kinds place q rest after x y a e t w =
+      ap (λ y. and_then (told y) (Checking s place rest)) t
+      ∙ ap (λ c. and_then (c also r.why s place x) (λ _. Ok (x, after))) (no_end place (length rest) x e)
+      ∙ ap (λ y. and_then y (λ _. Ok (x, after))) (rw (← a) w)
 
   -- the whole file, before anything was read
   pub going_first : (ws rest : List ℕ) (s : S) (place : ℕ) → s ≡ r.none → place ≡ 0 → rest ≡ ws → GoesOn ws s r.first place rest

@@ -19,13 +19,13 @@ abbrev pub ◌also◌ : Checked → Checked → Checked
 Ok _ also next = next
 Err e also next = Err e
 
--- refused by this number at this place, unless the test holds
-abbrev pub holds : Bool → ℕ → ℕ → Checked
-holds b number place = cond b (Ok tt) (Err (refusal number Records place))
-
--- and by another layer
+-- refused by this layer and number at this place, unless the test holds
 abbrev pub holds_in : Layer → Bool → ℕ → ℕ → Checked
 holds_in layer b number place = cond b (Ok tt) (Err (refusal number layer place))
+
+-- and by the layer of records
+abbrev pub holds : Bool → ℕ → ℕ → Checked
+holds = holds_in Records
 
 -- the number at this place is from low to high
 abbrev pub within : ℕ → ℕ → ℕ → ℕ → Checked

@@ -5,7 +5,7 @@ use Rattle.words.specs.declared.kind.Kind.TheVariants.{Machine}
 use Rattle.words.specs.Records.{Said, machine, regions, task, channel, exec, transfer, end}
 use Rattle.board.specs.declared.Task.{Task}
 use Rattle.board.specs.declared.Channel.{Channel}
-use Rattle.board.specs.Files.{Checked, ◌also◌, holds, within, closing, Rules, reads, file_of}
+use Rattle.board.specs.Files.{Checked, ◌also◌, holds, within, Rules, reads, file_of}
 use Rattle.board.specs.Plans.{PlanView, plan_of, Valid}
 
 -- each size from this place on is in its range
@@ -28,10 +28,6 @@ why pad tasks channels place (channel bytes pair) =
 why pad tasks channels place (exec start seat) = Ok tt
 why pad tasks channels place (transfer start side) = Ok tt
 why pad tasks channels place (end count) = Ok tt
-
--- the same with what every file asks of its end; `left` counts the words from the record on
-abbrev pub stands : ℕ → ℕ → ℕ → ℕ → ℕ → Said → Checked
-stands pad tasks channels place left x = closing place left x also why pad tasks channels place x
 
 -- the plan with one record more
 abbrev pub then : PlanView → Said → PlanView

@@ -8,7 +8,7 @@ use Rattle.words.specs.Records as said
 use Rattle.words.specs.Records.{Said, machine, regions, task, channel, end, and_then}
 use Rattle.board.specs.declared.Seat.{Seat}
 use Rattle.board.specs.Entries.{exec, transfer, length_of}
-use Rattle.board.specs.Files.{Checked, ◌also◌, holds_in, within, closing, Rules, reads, file_of}
+use Rattle.board.specs.Files.{Checked, ◌also◌, holds_in, within, Rules, reads, file_of}
 use Rattle.board.specs.Plans.{PlanView, Valid}
 use Rattle.board.specs.Sheets.{Sheet, Fits, seat_of, empty, with_exec, with_transfer}
 
@@ -50,10 +50,6 @@ why p next_task next_value place (said.transfer start value) =
     also holds_in sheet_layer (nat_le next_value value) 9 (place + 1)
     also holds_in sheet_layer (nat_le (start + length_of p (transfer value)) 536870911) 10 place
 why p next_task next_value place (end count) = Ok tt
-
--- the same with what every file asks of its end; `left` counts the words from the record on
-abbrev pub stands : PlanView → ℕ → ℕ → ℕ → ℕ → Said → Checked
-stands p next_task next_value place left x = closing place left x also why p next_task next_value place x
 
 -- with one record more
 abbrev pub then : Loaded → Said → Loaded

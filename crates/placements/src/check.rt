@@ -1,15 +1,13 @@
 // Whether a record may stand where it stands in a timetable.
-ghost use Rattle.std.specs.Prelude.{◌≡◌, ◌+◌, ◌^◌, ◌<◌, ◌≤◌, length, nat_le};
-ghost use Rattle.words.specs.Records.{exec, transfer, words_of};
-ghost use Rattle.words.specs.Seen.{said};
-ghost use Rattle.board.specs.Timetables.{why, stands};
+ghost use Rattle.std.specs.Prelude.{◌≡◌, ◌+◌, ◌^◌, ◌<◌, nat_le};
+ghost use Rattle.words.specs.Records.{exec, transfer};
+ghost use Rattle.board.specs.Timetables.{why};
 ghost use Rattle.plan.specs.Views.{view};
 ghost use Rattle.placements.specs.Shown.{reported};
 
 use crate::fault::Fault;
 use plan::Plan;
-use records::{closing, within};
-use words::Record;
+use records::within;
 
 // Whether an entry that starts there ends by the last cycle.
 pub fn in_time(start: u32, length: u32) -> bool
@@ -18,7 +16,13 @@ pub fn in_time(start: u32, length: u32) -> bool
     u64::from(start) + u64::from(length) <= 536_870_911
 }
 
-fn exec(plan: &Plan, place: usize, start: u32, seat: u32, next_task: usize) -> Result<(), Fault>
+pub(crate) fn exec(
+    plan: &Plan,
+    place: usize,
+    start: u32,
+    seat: u32,
+    next_task: usize,
+) -> Result<(), Fault>
     requires { place + 2 < 2 ^ 64 }
     ensures { reported result ≡ why (view plan.now) next_task 0 place (exec start seat) }
 {
@@ -40,7 +44,7 @@ fn exec(plan: &Plan, place: usize, start: u32, seat: u32, next_task: usize) -> R
     }
 }
 
-fn transfer(
+pub(crate) fn transfer(
     plan: &Plan,
     place: usize,
     start: u32,
@@ -62,30 +66,5 @@ fn transfer(
         Ok(())
     } else {
         Err(Fault::TooLate { place })
-    }
-}
-
-// Whether the record may stand at this place, where tasks and values have to rise to these at least.
-// `left` counts the words from its first on.
-pub(crate) fn check(
-    plan: &Plan,
-    found: Record<'_>,
-    next_task: usize,
-    next_value: usize,
-    place: usize,
-    left: usize,
-) -> Result<(), Fault>
-    requires left_bound { place + left < 2 ^ 64 }
-    requires found_len_bound { length (words_of (said found)) ≤ left }
-    ensures { reported result ≡ stands (view plan.now) next_task next_value place left (said found.entry) }
-{
-    match found {
-        Record::Exec { start, seat } => exec(plan, place, start, seat, next_task),
-        Record::Transfer { start, side } => transfer(plan, place, start, side, next_value),
-        Record::End { count } => Ok(closing(place, count, left)?),
-        Record::Machine { .. }
-        | Record::Regions { .. }
-        | Record::Task { .. }
-        | Record::Channel { .. } => Ok(()),
     }
 }

@@ -1,96 +1,99 @@
 // Gathers the placements of a timetable from its file, with no memory but its own.
-ghost use Rattle.std.specs.Prelude.{◌≡◌, Ok, Err, MatchResult};
-ghost use Rattle.words.specs.Seen.{said};
-ghost use Rattle.board.specs.Plans.{PlanView};
-ghost use Rattle.board.specs.Timetables.{then, timetable_rules, read_sheet};
-ghost use Rattle.records.specs.Gathering.{GoesBy};
+ghost use Rattle.std.specs.Prelude.{◌≡◌, Ok, Err, refl, MatchResult};
+ghost use Rattle.board.specs.Timetables.{Loaded as LoadedView, timetable_rules, read_sheet};
 ghost use Rattle.plan.specs.Views.{view};
-ghost use Rattle.placements.specs.Gathering.{loaded, sheet_in, Tables, Few, Roomy};
+ghost use Rattle.placements.specs.Gathering.{sheet_in, loaded};
 ghost use Rattle.placements.specs.Shown.{shown};
+ghost use Rattle.std.proofs.Common.{rules};
 
-use crate::check::check;
+use crate::check::{exec, transfer};
 use crate::fault::Fault;
-use crate::gathered::Placements;
+use crate::gathered::{Loaded, Placements};
+use arrayvec::ArrayVec;
 use board::Seat;
 use plan::Plan;
-use words::{Kind, Reader, Record};
+use records::{FileRules, read};
+use words::{Kind, Record};
 
-// Before the first record.
-fn nothing() -> Placements
-    ensures view { (p : PlanView) → Few p → loaded p result ≡ (timetable_rules p).none }
-    ensures tables { Tables result }
-{
-    Placements {
-        execs: [None; 64],
-        transfers: [None; 512],
-        next_task: 0,
-        next_value: 0,
-    }
+// The rules of the timetable files of a plan.
+#[derive(Clone, Copy)]
+struct TimetableRules<'p> {
+    plan: &'p Plan,
 }
 
-// One record more.
-fn note(so_far: &mut Placements, found: Record<'_>)
-    requires tables_before { Tables so_far.old }
-    requires roomy { Roomy (said found) }
-    ensures view { (p : PlanView) → loaded p so_far.new ≡ then (loaded p so_far.old) (said found.entry) }
-    ensures tables { Tables so_far.new }
-{
-    match found {
-        Record::Exec { start, seat } => {
-            let task = seat as usize / 64;
-            so_far.execs[task] = Some(Seat {
-                start,
-                core: seat / 8 % 8,
-                region: seat % 8,
-            });
-            so_far.next_task = task + 1;
-        }
-        Record::Transfer { start, side } => {
-            let value = side as usize;
-            so_far.transfers[value] = Some(start);
-            so_far.next_value = value + 1;
-        }
-        _ => {}
-    }
-}
+impl FileRules for TimetableRules<'_> {
+    type Gathered = Loaded;
 
-// The next record, taken and checked.
-fn next<'a>(
-    plan: &Plan,
-    reader: &mut Reader<'a>,
-    kinds: &[Kind],
-    so_far: &Placements,
-) -> Result<Record<'a>, Fault>
-    ensures { GoesBy (timetable_rules (view plan.now)) shown kinds.now (loaded (view plan.now) so_far.now) reader.old result reader.new }
-{
-    let (place, left) = (reader.place(), reader.left());
-    let found = reader.record(kinds)?;
-    check(
-        plan,
-        found,
-        so_far.next_task,
-        so_far.next_value,
-        place,
-        left,
-    )?;
-    Ok(found)
+    type Fault = Fault;
+
+    ghost State = { LoadedView };
+
+    ghost rules = { λ x. timetable_rules (view x.plan.now) };
+
+    ghost state = { loaded };
+
+    ghost told = { shown };
+
+    fn first(&self) -> &'static [Kind]
+        ensures { result.now ≡ (timetable_rules (view self.now.plan.now)).first }
+    {
+        &[Kind::Exec, Kind::Transfer, Kind::End]
+    }
+
+    fn nothing(&self) -> Loaded {
+        let mut execs = ArrayVec::from([None; 64]);
+        execs.truncate(self.plan.tasks().len());
+        let mut transfers = ArrayVec::from([None; 512]);
+        transfers.truncate(2 * self.plan.channels().len());
+        Loaded {
+            found: Placements { execs, transfers },
+            next_task: 0,
+            next_value: 0,
+        }
+    }
+
+    fn add(&self, so_far: &mut Loaded, found: Record<'_>, place: usize) -> Result<(), Fault> {
+        match found {
+            Record::Exec { start, seat } => {
+                exec(self.plan, place, start, seat, so_far.next_task)?;
+                let (task, core, region) = (seat as usize / 64, seat / 8 % 8, seat % 8);
+                if let Some(cell) = so_far.found.execs.get_mut(task) {
+                    *cell = Some(Seat {
+                        start,
+                        core,
+                        region,
+                    });
+                }
+                so_far.next_task = task + 1;
+            }
+            Record::Transfer { start, side } => {
+                transfer(self.plan, place, start, side, so_far.next_value)?;
+                let value = side as usize;
+                if let Some(cell) = so_far.found.transfers.get_mut(value) {
+                    *cell = Some(start);
+                }
+                so_far.next_value = value + 1;
+            }
+            Record::Machine { .. }
+            | Record::Regions { .. }
+            | Record::Task { .. }
+            | Record::Channel { .. }
+            | Record::End { .. } => {}
+        }
+        Ok(())
+    }
+
+    ghost ends = { λ _ _ _ _. refl };
+
+    ghost tells = { Prim.search rules };
 }
 
 impl Placements {
     // What the words say as a timetable of the plan, or the first refusal.
     pub fn read(plan: &Plan, words: &[u32]) -> Result<Placements, Fault>
-        ensures { MatchResult result (λ g. (read_sheet (view plan.now) words.now ≡ Ok (sheet_in (view plan.now) g)) × Tables g) (λ e. read_sheet (view plan.now) words.now ≡ Err (shown e)) }
+        ensures { MatchResult result (λ g. read_sheet (view plan.now) words.now ≡ Ok (sheet_in g)) (λ e. read_sheet (view plan.now) words.now ≡ Err (shown e)) }
     {
-        let mut reader = Reader::new(words);
-        let mut kinds: &[Kind] = &[Kind::Exec, Kind::Transfer, Kind::End];
-        let mut so_far = nothing();
-        'records: loop {
-            let found = next(plan, &mut reader, kinds, &so_far)?;
-            if let Record::End { .. } = found {
-                return Ok(so_far);
-            }
-            note(&mut so_far, found);
-            kinds = found.follows();
-        }
+        let loaded = read(&TimetableRules { plan }, words)?;
+        Ok(loaded.found)
     }
 }

@@ -1,6 +1,6 @@
 // What follows from a plan's numbers: lengths and needs.
 ghost use Rattle.std.specs.Prelude.{◌≡◌, ◌≤◌, length, sum_by};
-ghost use Rattle.board.specs.Plans.{divided_up, cycles, RoundsUp, exec_length, transfer_length, bytes_for, need, if_task, if_channel};
+ghost use Rattle.board.specs.Plans.{cycles, RoundsUp, exec_length, transfer_length, bytes_for, need, if_task, if_channel};
 ghost use Rattle.board.specs.Ranges.{Throughout};
 ghost use Rattle.plan.specs.Views.{view};
 
@@ -13,27 +13,23 @@ impl Plan {
         ensures value { result ≡ cycles (view self.now) bytes }
         ensures law { RoundsUp }
     {
-        slots(bytes, self.slot_load) * self.slot_time as u64
+        u64::from(bytes.div_ceil(self.slot_load)) * u64::from(self.slot_time)
     }
 
     // The length of a task's exec, or none where the plan lacks the task.
     pub fn exec_length(&self, task: usize) -> Option<u32>
         ensures { result ≡ if_task (view self.now) task (exec_length (view self.now) task) }
     {
-        match self.tasks.get(task) {
-            Some(found) => Some(found.limit),
-            None => None,
-        }
+        let found = self.tasks.get(task)?;
+        Some(found.limit)
     }
 
     // The length of a channel's write and of its read, or none where the plan lacks the channel.
     pub fn transfer_length(&self, channel: usize) -> Option<u32>
         ensures { result ≡ if_channel (view self.now) channel (transfer_length (view self.now) channel) }
     {
-        match self.channels.get(channel) {
-            Some(found) => Some(self.cycles(found.bytes) as u32),
-            None => None,
-        }
+        let found = self.channels.get(channel)?;
+        Some(self.cycles(found.bytes) as u32)
     }
 
     // What a task needs of its region: its local bytes and those of all its channels, in and out.
@@ -41,21 +37,9 @@ impl Plan {
     pub fn need(&self, task: usize) -> Option<u32>
         ensures { result ≡ if_task (view self.now) task (need (view self.now) task) }
     {
-        match self.tasks.get(task) {
-            Some(found) => Some(found.local + bytes_for(task, self.channels.as_slice())),
-            None => None,
-        }
+        let found = self.tasks.get(task)?;
+        Some(found.local + bytes_for(task, self.channels.as_slice()))
     }
-}
-
-// How many slots of this load hold these bytes.
-fn slots(bytes: u32, load: u32) -> u64
-    requires { 1 ≤ load }
-    ensures value { result ≡ divided_up bytes load }
-    ensures bound { result ≤ bytes }
-{
-    let load = load as u64;
-    (bytes as u64 + (load - 1)) / load
 }
 
 // The bytes of all channels of a task.

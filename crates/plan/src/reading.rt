@@ -1,6 +1,6 @@
 // Reads a plan file.
 ghost use Rattle.std.specs.Prelude.{◌≡◌, IfOk};
-ghost use Rattle.records.specs.Gathering.{gathered, Counted};
+ghost use Rattle.records.specs.Gathering.{gathered};
 ghost use Rattle.board.specs.Plans.{Valid};
 ghost use Rattle.board.specs.Reading.{LawOfReading};
 ghost use Rattle.plan.specs.Views.{view, Answers};
@@ -11,14 +11,13 @@ use records::{Gathered, gather};
 use std::alloc::{AllocError, Global};
 
 // A plan of these numbers.
-fn keep(heap: Global, numbers: &Gathered<'_>) -> Result<Plan, AllocError>
-    requires valid { Valid (gathered numbers.now) }
-    requires counted { Counted numbers.now }
+fn keep(heap: Global, numbers: &Gathered) -> Result<Plan, AllocError>
+    requires { Valid (gathered numbers.now) }
     ensures { IfOk result (λ p. view p ≡ gathered numbers.now) }
 {
-    let regions = Vec::from_slice(heap, numbers.sizes)?;
-    let tasks = Vec::from_slice(heap, &numbers.tasks[0..numbers.task_count])?;
-    let channels = Vec::from_slice(heap, &numbers.channels[0..numbers.channel_count])?;
+    let regions = Vec::from_slice(heap, numbers.regions.as_slice())?;
+    let tasks = Vec::from_slice(heap, numbers.tasks.as_slice())?;
+    let channels = Vec::from_slice(heap, numbers.channels.as_slice())?;
     Ok(Plan {
         cores: numbers.cores,
         slot_time: numbers.slot_time,

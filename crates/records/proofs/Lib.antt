@@ -1,1 +1,1 @@
-mod Going
+mod Coming

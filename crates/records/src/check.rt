@@ -1,13 +1,11 @@
 // Whether a record may stand where it stands.
 ghost use Rattle.std.specs.Prelude.{◌≡◌, ◌+◌, ◌^◌, ◌<◌, ◌≤◌, length, sum};
-ghost use Rattle.words.specs.Records.{machine, regions, task, channel, end, words_of, Placed};
-ghost use Rattle.words.specs.Seen.{said};
+ghost use Rattle.words.specs.Records.{machine, regions, task, channel, end};
 ghost use Rattle.board.specs.Files.{within, closing};
-ghost use Rattle.board.specs.Reading.{sizes_within, why, stands};
+ghost use Rattle.board.specs.Reading.{sizes_within, why};
 ghost use Rattle.records.specs.Shown.{reported};
 
 use crate::fault::Fault;
-use words::Record;
 
 // Refuses a number outside its range.
 pub fn within(place: usize, n: usize, low: usize, high: usize) -> Result<(), Fault>
@@ -42,7 +40,7 @@ fn total(sizes: &[u32]) -> u64
     total
 }
 
-fn machine(
+pub(crate) fn machine(
     place: usize,
     cores: u32,
     slot_time: u32,
@@ -58,7 +56,7 @@ fn machine(
     within(place + 3, scratchpad as usize, 1, 1_048_576)
 }
 
-fn regions(place: usize, at: usize, sizes: &[u32], scratchpad: u32) -> Result<(), Fault>
+pub(crate) fn regions(place: usize, at: usize, sizes: &[u32], scratchpad: u32) -> Result<(), Fault>
     requires { at + length sizes.now < 2 ^ 64 }
     ensures { reported result ≡ why scratchpad 0 0 place (regions at sizes.now) }
 {
@@ -71,7 +69,7 @@ fn regions(place: usize, at: usize, sizes: &[u32], scratchpad: u32) -> Result<()
     }
 }
 
-fn task(place: usize, limit: u32, local: u32, tasks: usize) -> Result<(), Fault>
+pub(crate) fn task(place: usize, limit: u32, local: u32, tasks: usize) -> Result<(), Fault>
     requires { place + 2 < 2 ^ 64 }
     ensures { reported result ≡ why 0 tasks 0 place (task limit local) }
 {
@@ -84,7 +82,13 @@ fn task(place: usize, limit: u32, local: u32, tasks: usize) -> Result<(), Fault>
     }
 }
 
-fn channel(place: usize, bytes: u32, pair: u32, tasks: usize, channels: usize) -> Result<(), Fault>
+pub(crate) fn channel(
+    place: usize,
+    bytes: u32,
+    pair: u32,
+    tasks: usize,
+    channels: usize,
+) -> Result<(), Fault>
     requires { place + 2 < 2 ^ 64 }
     ensures { reported result ≡ why 0 tasks channels place (channel bytes pair) }
 {
@@ -109,35 +113,5 @@ pub fn closing(place: usize, count: u32, left: usize) -> Result<(), Fault>
         Ok(())
     } else {
         Err(Fault::End { place })
-    }
-}
-
-// Whether the record may stand at this place, behind a machine with this scratchpad and so many tasks and channels.
-// `left` counts the words from its first on.
-pub(crate) fn check(
-    found: Record<'_>,
-    scratchpad: u32,
-    tasks: usize,
-    channels: usize,
-    place: usize,
-    left: usize,
-) -> Result<(), Fault>
-    requires left_bound { place + left < 2 ^ 64 }
-    requires found_len_bound { length (words_of (said found)) ≤ left }
-    requires placed { Placed place (said found) }
-    ensures { reported result ≡ stands scratchpad tasks channels place left (said found.entry) }
-{
-    match found {
-        Record::Machine {
-            cores,
-            slot_time,
-            slot_load,
-            scratchpad,
-        } => { machine(place, cores, slot_time, slot_load, scratchpad) }
-        Record::Regions { place: at, sizes } => regions(place, at, sizes, scratchpad),
-        Record::Task { limit, local } => task(place, limit, local, tasks),
-        Record::Channel { bytes, pair } => channel(place, bytes, pair, tasks, channels),
-        Record::Exec { .. } | Record::Transfer { .. } => Ok(()),
-        Record::End { count } => closing(place, count, left),
     }
 }

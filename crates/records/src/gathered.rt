@@ -1,15 +1,15 @@
-// What was read of a plan so far. The tables are as long as a plan may need them.
+// What was read of a plan so far.
+use arrayvec::ArrayVec;
 use board::{Channel, Task};
 
-#[derive(Clone, Copy)]
-pub struct Gathered<'a> {
+// The tables have room for any plan.
+#[derive(Drop)]
+pub struct Gathered {
     pub cores: u32,
     pub slot_time: u32,
     pub slot_load: u32,
     pub scratchpad: u32,
-    pub sizes: &'a [u32],
-    pub tasks: [Task; 64],
-    pub task_count: usize,
-    pub channels: [Channel; 256],
-    pub channel_count: usize,
+    pub regions: ArrayVec<u32, 8>,
+    pub tasks: ArrayVec<Task, 64>,
+    pub channels: ArrayVec<Channel, 256>,
 }

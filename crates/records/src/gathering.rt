@@ -1,105 +1,103 @@
 // Gathers the numbers of a plan from its file, with no memory but its own.
-ghost use Rattle.std.specs.Prelude.{◌≡◌, Ok, Err, MatchResult};
-ghost use Rattle.words.specs.Seen.{said};
-ghost use Rattle.records.specs.Gathering.{gathered, Counted, Goes, Roomy};
-ghost use Rattle.board.specs.Reading.{then, plan_rules, read_plan};
+ghost use Rattle.std.specs.Prelude.{◌≡◌, Ok, Err, refl, MatchResult};
+ghost use Rattle.board.specs.Plans.{PlanView};
+ghost use Rattle.board.specs.Reading.{plan_rules, read_plan};
+ghost use Rattle.records.specs.Gathering.{gathered};
 ghost use Rattle.records.specs.Shown.{shown};
+ghost use Rattle.std.proofs.Common.{rules};
 
-use crate::check::check;
+use crate::check::{channel, machine, regions, task};
 use crate::fault::Fault;
 use crate::gathered::Gathered;
+use crate::rules::{FileRules, read};
+use arrayvec::ArrayVec;
 use board::{Channel, Task};
-use words::{Kind, Reader, Record};
+use words::{Kind, Record};
 
-// Before the first record.
-fn nothing<'a>() -> Gathered<'a>
-    ensures view { gathered result ≡ plan_rules.none }
-    ensures counted { Counted result }
-{
-    Gathered {
-        cores: 0,
-        slot_time: 0,
-        slot_load: 0,
-        scratchpad: 0,
-        sizes: &[],
-        tasks: [Task { limit: 0, local: 0 }; 64],
-        task_count: 0,
-        channels: [Channel {
-            from: 0,
-            to: 0,
-            bytes: 0,
-        }; 256],
-        channel_count: 0,
+// The rules of plan files.
+#[derive(Clone, Copy)]
+struct PlanRules;
+
+impl FileRules for PlanRules {
+    type Gathered = Gathered;
+
+    type Fault = Fault;
+
+    ghost State = { PlanView };
+
+    ghost rules = { λ _. plan_rules };
+
+    ghost state = { gathered };
+
+    ghost told = { shown };
+
+    fn first(&self) -> &'static [Kind]
+        ensures { result.now ≡ plan_rules.first }
+    {
+        &[Kind::Machine]
     }
-}
 
-// One record more.
-fn note<'a>(so_far: &mut Gathered<'a>, found: Record<'a>)
-    requires { Roomy so_far.old (said found) }
-    ensures view { gathered so_far.new ≡ then (gathered so_far.old) (said found.entry) }
-    ensures counted { Counted so_far.new }
-{
-    match found {
-        Record::Machine {
-            cores,
-            slot_time,
-            slot_load,
-            scratchpad,
-        } => {
-            so_far.cores = cores;
-            so_far.slot_time = slot_time;
-            so_far.slot_load = slot_load;
-            so_far.scratchpad = scratchpad;
+    fn nothing(&self) -> Gathered {
+        Gathered {
+            cores: 0,
+            slot_time: 0,
+            slot_load: 0,
+            scratchpad: 0,
+            regions: ArrayVec::new(),
+            tasks: ArrayVec::new(),
+            channels: ArrayVec::new(),
         }
-        Record::Regions { sizes, .. } => so_far.sizes = sizes,
-        Record::Task { limit, local } => {
-            so_far.tasks[so_far.task_count] = Task { limit, local };
-            so_far.task_count += 1;
-        }
-        Record::Channel { bytes, pair } => {
-            let (from, to) = (pair as usize / 64, pair as usize % 64);
-            so_far.channels[so_far.channel_count] = Channel { from, to, bytes };
-            so_far.channel_count += 1;
-        }
-        Record::Exec { .. } | Record::Transfer { .. } | Record::End { .. } => {}
     }
-}
 
-// The next record, taken and checked.
-fn next<'a>(
-    reader: &mut Reader<'a>,
-    kinds: &[Kind],
-    so_far: &Gathered<'_>,
-) -> Result<Record<'a>, Fault>
-    requires { Counted so_far.now }
-    ensures { Goes kinds.now (gathered so_far.now) reader.old result reader.new }
-{
-    let (place, left) = (reader.place(), reader.left());
-    let found = reader.record(kinds)?;
-    check(
-        found,
-        so_far.scratchpad,
-        so_far.task_count,
-        so_far.channel_count,
-        place,
-        left,
-    )?;
-    Ok(found)
+    fn add(&self, so_far: &mut Gathered, found: Record<'_>, place: usize) -> Result<(), Fault> {
+        match found {
+            Record::Machine {
+                cores,
+                slot_time,
+                slot_load,
+                scratchpad,
+            } => {
+                machine(place, cores, slot_time, slot_load, scratchpad)?;
+                so_far.cores = cores;
+                so_far.slot_time = slot_time;
+                so_far.slot_load = slot_load;
+                so_far.scratchpad = scratchpad;
+            }
+            Record::Regions { place: at, sizes } => {
+                regions(place, at, sizes, so_far.scratchpad)?;
+                let Ok(sizes) = ArrayVec::try_from(sizes) else {
+                    return Err(Fault::Range { place });
+                };
+                so_far.regions = sizes;
+            }
+            Record::Task { limit, local } => {
+                task(place, limit, local, so_far.tasks.len())?;
+                so_far.tasks.push(Task { limit, local });
+            }
+            Record::Channel { bytes, pair } => {
+                channel(
+                    place,
+                    bytes,
+                    pair,
+                    so_far.tasks.len(),
+                    so_far.channels.len(),
+                )?;
+                let (from, to) = (pair as usize / 64, pair as usize % 64);
+                so_far.channels.push(Channel { from, to, bytes });
+            }
+            Record::Exec { .. } | Record::Transfer { .. } | Record::End { .. } => {}
+        }
+        Ok(())
+    }
+
+    ghost ends = { λ _ _ _ _. refl };
+
+    ghost tells = { Prim.search rules };
 }
 
 // The numbers of the plan that the words say, or the first refusal.
-pub fn gather(words: &[u32]) -> Result<Gathered<'_>, Fault>
-    ensures { MatchResult result (λ g. (read_plan words.now ≡ Ok (gathered g)) × Counted g) (λ e. read_plan words.now ≡ Err (shown e)) }
+pub fn gather(words: &[u32]) -> Result<Gathered, Fault>
+    ensures { MatchResult result (λ g. read_plan words.now ≡ Ok (gathered g)) (λ e. read_plan words.now ≡ Err (shown e)) }
 {
-    let mut reader = Reader::new(words);
-    let mut kinds: &[Kind] = &[Kind::Machine];
-    let mut so_far = nothing();
-    'records: loop {
-        let found = next(&mut reader, kinds, &so_far)?;
-        if let Record::End { .. } = found {
-            return Ok(so_far);
-        }
-        note(&mut so_far, found);
-        kinds = found.follows();
-    }
+    read(&PlanRules, words)
 }

@@ -5,8 +5,10 @@ mod check;
 mod fault;
 mod gathered;
 mod gathering;
+mod rules;
 
 pub use check::{closing, within};
 pub use fault::Fault;
 pub use gathered::Gathered;
 pub use gathering::gather;
+pub use rules::{FileRules, read};

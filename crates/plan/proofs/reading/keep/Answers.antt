@@ -1,13 +1,11 @@
-use Rattle.std.proofs.Common.{◌≡◌, take, vec_items, rules}
+use Rattle.std.proofs.Common.{◌∙◌}
 use Rattle.plan.proofs.Keeps.{valid_at}
 use Rattle.plan.proofs.reading.keep.Goals as goal
 
 pub invariant_of-result : goal.invariant_of-result
 invariant_of-result c =
     let g = c.args.numbers.now in
-    let ts : vec_items c.in_ok-tasks.tasks ≡ take g.task_count g.tasks = search rules in
-    let cs : vec_items c.in_ok-channels.channels ≡ take g.channel_count g.channels = search rules in
-    let v = valid_at g.cores g.slot_time g.slot_load g.scratchpad _ _ _ _ _ _ c.in_ok-regions.ensures.items ts cs c.requires.valid in
+    let v = valid_at g.cores g.slot_time g.slot_load g.scratchpad _ _ _ _ _ _ (c.in_ok-regions.ensures.items ∙ c.as_slice.ensures.value) (c.in_ok-tasks.ensures.items ∙ c.as_slice-2.ensures.value) (c.in_ok-channels.ensures.items ∙ c.as_slice-3.ensures.value) c.requires in
     record {
       cores_fit = v.cores;
       slot_time_fits = v.slot_time;
