@@ -10,6 +10,6 @@ returns c =
     let p = view plan in
     let few : 2 * length p.channels ≤ 512 = omega (arith, plan.channel_count) in
     ap₂
-      (λ xs ys. loaded_of (record { execs = xs; transfers = ys }) 0 0)
-      (rw (c.truncate.ensures.items, c.from-execs.ensures.0, c.tasks.ensures) (take-replicate (length p.tasks) 64 None plan.task_count.1))
-      (rw (c.truncate-2.ensures.items, c.from-transfers.ensures.0, c.channels.ensures) (take-replicate (2 * length p.channels) 512 None few))
+    (λ xs ys. loaded_of (record { execs = xs; transfers = ys }) 0 0)
+    (rw (c.truncate.ensures.items, c.from-execs.ensures.0, c.tasks.ensures) (take-replicate (length p.tasks) 64 None plan.task_count.1))
+    (rw (c.truncate-2.ensures.items, c.from-transfers.ensures.0, c.channels.ensures) (take-replicate (2 * length p.channels) 512 None few))
