@@ -58,10 +58,14 @@ pub record Rules (S : Type 0) : Type 0 where
   pub why : S → ℕ → Said → Checked
   pub then : S → Said → S
 
--- a fault of the words, as it is told
+-- an answer with its fault as it is told, by number, layer and place
+abbrev pub reported_by : {A F : Type 0} → (F → Refusal) → Result A F → Result A Refusal
+reported_by tells (Ok a) = Ok a
+reported_by tells (Err e) = Err (tells e)
+
+-- with a fault of the words
 abbrev pub told : {A : Type 0} → Result A Fault → Result A Refusal
-told (Ok a) = Ok a
-told (Err e) = Err (shown e)
+told = reported_by shown
 
 -- the next record, taken and checked, and the words after it
 abbrev pub next : {S : Type 0} → Rules S → List Kind → S → ℕ → List ℕ → Result (Said × List ℕ) Refusal

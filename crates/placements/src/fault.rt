@@ -1,13 +1,15 @@
 // What is wrong with a timetable, or with a call on a sheet.
-ghost use Rattle.std.specs.Prelude.{◌≡◌};
+ghost use Rattle.std.specs.Prelude.{◌≡◌, Some};
 ghost use Rattle.records.specs.declared.fault.Fault.TheVariants.{Words};
 ghost use Rattle.placements.specs.declared.fault.Fault.TheVariants.{Records};
-ghost use Rattle.placements.specs.Shown.{shown};
+ghost use Rattle.placements.specs.Shown.{shown, fault_text};
 
+use std::error::Error;
+use std::fmt;
 use words::{Layer, Refusal};
 
 // What can be wrong with a sheet. The place is 0 in a call.
-#[derive(Clone, Copy)]
+#[derive(Clone, Copy, Debug, PartialEq, Eq)]
 pub enum Fault {
     // What the records below it found.
     Records(records::Fault),
@@ -40,6 +42,23 @@ impl Fault {
         }
     }
 }
+
+impl fmt::Display for Fault {
+    ghost output = { λ x. Some (fault_text x) };
+
+    fn fmt<W: fmt::Write>(&self, f: &mut fmt::Formatter<W>) -> fmt::Result {
+        f.write_str(match self {
+            Fault::Records(fault) => return write!(f, "{fault}"),
+            Fault::Unknown { .. } => "the plan lacks this task, channel, side, core or region",
+            Fault::NotRising { .. } => "the tasks or the sides do not rise",
+            Fault::TooLate { .. } => "the entry would end after the last cycle",
+            Fault::AlreadyPlaced => "the entry is already placed",
+            Fault::NotPlaced => "the entry is not placed",
+        })
+    }
+}
+
+impl Error for Fault {}
 
 impl From<records::Fault> for Fault {
     ghost from_gives = { λ e r. r ≡ Records e };

@@ -1,12 +1,12 @@
 -- What a plan says, and what the answer of reading says of the words.
-use Rattle.std.specs.Prelude.{◌≡◌, ℕ, List, Some, None, Ok, Err, vec_items, Option, Result}
+use Rattle.std.specs.Prelude.{◌≡◌, ℕ, List, Some, None, Ok, Err, vec_items, codes, Option, Result}
 use Rattle.words.specs.declared.fault.Refusal.{Refusal}
 use Rattle.plan.specs.declared.model.Plan.{Plan}
 use Rattle.plan.specs.declared.error.ReadError.{ReadError}
 use Rattle.plan.specs.declared.error.ReadError.TheVariants.{NoMemory, Refused}
 use Rattle.board.specs.Plans.{PlanView, plan_of}
 use Rattle.board.specs.Reading.{read_plan}
-use Rattle.records.specs.Shown.{shown}
+use Rattle.records.specs.Shown.{shown, fault_text}
 
 abbrev pub view : Plan → PlanView
 view p =
@@ -26,3 +26,8 @@ Answers ws (Err NoMemory) = SaysPlan ws
 abbrev pub refusal_of : ReadError → Option Refusal
 refusal_of NoMemory = None
 refusal_of (Refused f) = Some (shown f)
+
+-- why reading gives no plan
+abbrev pub error_text : ReadError → List ℕ
+error_text NoMemory = codes "out of memory"
+error_text (Refused f) = fault_text f

@@ -1,13 +1,15 @@
 // Why reading gives no plan.
-ghost use Rattle.std.specs.Prelude.{◌≡◌};
+ghost use Rattle.std.specs.Prelude.{◌≡◌, Some};
 ghost use Rattle.plan.specs.declared.error.ReadError.TheVariants.{NoMemory, Refused as RefusedBy};
-ghost use Rattle.plan.specs.Views.{refusal_of};
+ghost use Rattle.plan.specs.Views.{refusal_of, error_text};
 
 use records::Fault;
 use std::alloc::AllocError;
+use std::error::Error;
+use std::fmt;
 use words::Refusal;
 
-#[derive(Clone, Copy)]
+#[derive(Clone, Copy, Debug, PartialEq, Eq)]
 pub enum ReadError {
     NoMemory,
     Refused(Fault),
@@ -24,6 +26,19 @@ impl ReadError {
         }
     }
 }
+
+impl fmt::Display for ReadError {
+    ghost output = { λ x. Some (error_text x) };
+
+    fn fmt<W: fmt::Write>(&self, f: &mut fmt::Formatter<W>) -> fmt::Result {
+        match self {
+            ReadError::NoMemory => f.write_str("out of memory"),
+            ReadError::Refused(fault) => write!(f, "{fault}"),
+        }
+    }
+}
+
+impl Error for ReadError {}
 
 impl From<Fault> for ReadError {
     ghost from_gives = { λ e r. r ≡ RefusedBy e };

@@ -35,11 +35,12 @@ fn total(sizes: &[u32]) -> u64
 {
     let mut total = 0;
     for size in sizes {
-        total += *size as u64;
+        total += u64::from(*size);
     }
     total
 }
 
+// Each record has its own number of words at its place, so each of these asks for a bound of its own.
 pub(crate) fn machine(
     place: usize,
     cores: u32,
@@ -62,7 +63,7 @@ pub(crate) fn regions(place: usize, at: usize, sizes: &[u32], scratchpad: u32) -
 {
     within(place, sizes.len(), 1, 8)?;
     sizes_within(at, sizes)?;
-    if total(sizes) <= scratchpad as u64 {
+    if total(sizes) <= u64::from(scratchpad) {
         Ok(())
     } else {
         Err(Fault::Overfull { place })

@@ -1,12 +1,14 @@
 // What is wrong with the records of a file.
-ghost use Rattle.std.specs.Prelude.{◌≡◌};
+ghost use Rattle.std.specs.Prelude.{◌≡◌, Some};
 ghost use Rattle.records.specs.declared.fault.Fault.TheVariants.{Words};
-ghost use Rattle.records.specs.Shown.{shown};
+ghost use Rattle.records.specs.Shown.{shown, fault_text};
 
+use std::error::Error;
+use std::fmt;
 use words::{Layer, Refusal};
 
 // What can be wrong with the records of a file.
-#[derive(Clone, Copy)]
+#[derive(Clone, Copy, Debug, PartialEq, Eq)]
 pub enum Fault {
     // What the words below it found.
     Words(words::Fault),
@@ -41,6 +43,24 @@ impl Fault {
         }
     }
 }
+
+impl fmt::Display for Fault {
+    ghost output = { λ x. Some (fault_text x) };
+
+    fn fmt<W: fmt::Write>(&self, f: &mut fmt::Formatter<W>) -> fmt::Result {
+        f.write_str(match self {
+            Fault::Words(fault) => return write!(f, "{fault}"),
+            Fault::Range { .. } => "a number is outside its range",
+            Fault::TooMany { .. } => "a task or a channel is one too many",
+            Fault::Pair { .. } =>
+                "a channel does not go from a lower task to a higher task of the plan",
+            Fault::Overfull { .. } => "the regions add up to more than the scratchpad",
+            Fault::End { .. } => "the end does not close the file",
+        })
+    }
+}
+
+impl Error for Fault {}
 
 impl From<words::Fault> for Fault {
     ghost from_gives = { λ e r. r ≡ Words e };
