@@ -1,5 +1,6 @@
 // The slots of a sheet, plain tables.
-ghost use Rattle.std.specs.Prelude.{◌≡◌, ◌≤◌, length, take, slice_set};
+ghost use Rattle.std.specs.Prelude.{◌≡◌, length, slice_set};
+ghost use Rattle.std.specs.List.{refill};
 ghost use Rattle.board.specs.Sheets.{with_exec, with_transfer};
 ghost use Rattle.slots.specs.Views.{places, lengths, sheet_of, exec_lengths, transfer_lengths};
 
@@ -45,11 +46,10 @@ impl Slots {
     }
 
     // Gives each exec the seat of its task and each transfer the start of its value, or empties its slot.
+    // Those past the last one given stay, and those given past the last slot count for nothing.
     pub fn fill(&mut self, seats: &[Option<Seat>], starts: &[Option<u32>])
-        requires seats { length self.old.execs.items ≤ length seats.now }
-        requires starts { length self.old.transfers.items ≤ length starts.now }
-        ensures execs { (sheet_of self.new).execs ≡ take (length self.old.execs.items) seats.now }
-        ensures transfers { (sheet_of self.new).transfers ≡ take (length self.old.transfers.items) starts.now }
+        ensures execs { (sheet_of self.new).execs ≡ refill (length (sheet_of self.old).execs) (sheet_of self.old).execs seats.now }
+        ensures transfers { (sheet_of self.new).transfers ≡ refill (length (sheet_of self.old).transfers) (sheet_of self.old).transfers starts.now }
         ensures exec_lengths { exec_lengths self.new ≡ exec_lengths self.old }
         ensures transfer_lengths { transfer_lengths self.new ≡ transfer_lengths self.old }
     {
@@ -70,8 +70,7 @@ fn set<P: Copy>(slots: &mut Vec<Slot<P>>, index: usize, place: Option<P>)
 
 // Gives each slot the place with its number, or empties it.
 fn fill<P: Copy>(slots: &mut Vec<Slot<P>>, given: &[Option<P>])
-    requires { length slots.old.items ≤ length given.now }
-    ensures places { places slots.new.items ≡ take (length slots.old.items) given.now }
+    ensures places { places slots.new.items ≡ refill (length (places slots.old.items)) (places slots.old.items) given.now }
     ensures lengths { lengths slots.new.items ≡ lengths slots.old.items }
 {
     for (index, place) in given.iter().enumerate() {

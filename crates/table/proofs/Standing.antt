@@ -1,6 +1,7 @@
 -- A table's sheet fits its plan, and so do slots that are filled from a timetable.
-use Rattle.std.proofs.Common.{◌≡◌, ℕ, ◌*◌, map, length, take, Some, None, vec_items, sym, refl, ap, ◌∙◌, ap₂}
-use Rattle.std.specs.List.{range_with_len}
+use Rattle.std.proofs.Common.{◌≡◌, ℕ, ◌*◌, List, ◌++◌, map, length, take, drop, Some, None, vec_items, sym, refl, ap, ◌∙◌, ap₂}
+use Rattle.std.specs.List.{range_with_len, refill}
+use Rattle.std.proofs.Math.Seq.{take-append_seam}
 use Rattle.std.proofs.lemmas.List.FromFn.{length-map-range_with_len}
 use Rattle.std.proofs.lemmas.List.{length-map}
 use Rattle.board.specs.Entries.{transfer, length_of}
@@ -9,8 +10,6 @@ use Rattle.board.specs.declared.Entry.{Entry}
 use Rattle.board.specs.declared.Entry.TheVariants.{Exec, Write, Read}
 use Rattle.board.specs.Placing.{put, cleared}
 use Rattle.board.specs.Sheets.{Sheet, Fits}
-use Rattle.placements.specs.declared.gathered.Placements.{Placements}
-use Rattle.placements.specs.Gathering.{sheet_in}
 use Rattle.table.specs.declared.model.Table.{Table}
 use Rattle.slots.specs.declared.slot.Slots.{Slots}
 use Rattle.table.specs.Tables.{plan_in, sheet, with_entry}
@@ -31,12 +30,16 @@ fits t = record {
   ends = t.ends_fit;
 }
 
--- slots that are filled from a timetable
-pub filled : (t : Table) (x : Slots) (g : Placements) → (sheet_of x).execs ≡ take (length (vec_items t.slots.execs)) g.execs → (sheet_of x).transfers ≡ take (length (vec_items t.slots.transfers)) g.transfers → sheet_of x ≡ sheet_in (plan_in t) g
-filled t x g a b =
-    let n = execs_long (plan_in t) t.slots t.exec_lengths in
-    let m = transfers_long (plan_in t) t.slots t.transfer_lengths in
-    ap₂ (λ es ts. record { execs = es; transfers = ts }) (a ∙ ap (λ k. take k g.execs) n) (b ∙ ap (λ k. take k g.transfers) m)
+-- slots that are filled from a timetable of the plan
+refilled : {X : Type 0} (xs ys : List X) → length ys ≡ length xs → refill (length xs) xs ys ≡ ys
+refilled xs ys e = ap (λ n. take n (ys ++ drop (length ys) xs)) (sym e) ∙ take-append_seam ys (drop (length ys) xs)
+
+pub filled : (t : Table) (x : Slots) (s : Sheet) → Fits (plan_in t) s → (sheet_of x).execs ≡ refill (length (sheet t).execs) (sheet t).execs s.execs → (sheet_of x).transfers ≡ refill (length (sheet t).transfers) (sheet t).transfers s.transfers → sheet_of x ≡ s
+filled t x s f a b =
+    let w = fits t in
+    ap₂ (λ es ts. record { execs = es; transfers = ts })
+    (a ∙ refilled (sheet t).execs s.execs (f.execs ∙ sym w.execs))
+    (b ∙ refilled (sheet t).transfers s.transfers (f.transfers ∙ sym w.transfers))
 
 -- an entry that is placed, and one that is withdrawn
 pub with_some : (s : Sheet) (n : Entry) (a : ℕ) → with_entry s n (Some a) ≡ put s n a

@@ -13,7 +13,8 @@ impl Table<'_> {
         ensures law { LawOfLoading }
     {
         let found = Placements::read(self.plan, words)?;
-        self.slots.fill(&found.execs, &found.transfers);
+        self.slots
+            .fill(found.execs.as_slice(), found.transfers.as_slice());
         Ok(())
     }
 }
