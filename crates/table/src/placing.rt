@@ -1,5 +1,5 @@
 // Places and withdraws one entry.
-ghost use Rattle.std.specs.Prelude.{◌≡◌, ◌^◌, ◌<◌, is_some};
+ghost use Rattle.std.specs.Prelude.{◌≡◌, ◌-◌, ◌^◌, min, is_some};
 ghost use Rattle.board.specs.Placing.{entry_of, may_place, may_withdraw, placing, withdrawing};
 ghost use Rattle.board.specs.Sheets.{start};
 ghost use Rattle.placements.specs.Shown.{reported};
@@ -11,21 +11,20 @@ use board::{Entry, Seat};
 use placements::{Fault, in_time};
 use slots::Slots;
 
-// The number of the entry's slot: its task, or 2 times its channel, plus 1 for the read.
+// The number of the entry's slot: its task, or 2 times its channel, plus 1 for the read. The greatest `usize`, which no
+// slot has, stands for all past it.
 fn number(entry: Entry) -> usize
-    requires { number_of entry < 2 ^ 64 }
-    ensures { result ≡ number_of entry }
+    ensures { result ≡ min (number_of entry) (2 ^ 64 - 1) }
 {
     match entry {
         Entry::Exec { task, .. } => task,
-        Entry::Write { channel } => 2 * channel,
-        Entry::Read { channel } => 2 * channel + 1,
+        Entry::Write { channel } => channel.saturating_mul(2),
+        Entry::Read { channel } => channel.saturating_mul(2).saturating_add(1),
     }
 }
 
 // Places the entry, or empties its slot.
 fn set(slots: &mut Slots, entry: Entry, start: Option<u32>)
-    requires { number_of entry < 2 ^ 64 }
     ensures sheet { sheet_of slots.new ≡ with_entry (sheet_of slots.old) entry start }
     ensures execs { exec_lengths slots.new ≡ exec_lengths slots.old }
     ensures transfers { transfer_lengths slots.new ≡ transfer_lengths slots.old }
@@ -64,7 +63,6 @@ impl Table<'_> {
 
     // Whether the entry is placed; an exec wherever it is seated.
     fn is_placed(&self, entry: Entry) -> bool
-        requires { number_of entry < 2 ^ 64 }
         ensures { result ≡ is_some (start (sheet self.now) (entry_of entry)) }
     {
         let number = number(entry);
