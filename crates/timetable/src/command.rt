@@ -52,10 +52,8 @@ impl fmt::Display for Wrong<'_> {
 pub(crate) fn command_of(words: &[String]) -> Result<Command<'_>, Wrong<'_>>
     ensures { Given words.now result }
 {
-    match words {
-        [] => Err(Wrong::NoCommand),
-        [first, rest @ ..] => command_on(first.as_str(), rest),
-    }
+    let (name, files) = words.split_first().ok_or(Wrong::NoCommand)?;
+    command_on(name.as_str(), files)
 }
 
 // The command of this name on these files.
