@@ -13,6 +13,7 @@ abbrev pub two_task : PlanView
 two_task =
     plan_of 2 4 12 100 (60 ∷ 40 ∷ []) (record { limit = 10; local = 20 } ∷ record { limit = 6; local = 30 } ∷ []) (record { from = 0; to = 1; bytes = 24 } ∷ [])
 
+-- its file
 abbrev pub two_task_words : List ℕ
 two_task_words =
     0x20000002 ∷ 0x4 ∷ 0xC ∷ 0x64
@@ -29,23 +30,26 @@ built = record {
   transfers = Some 10 ∷ Some 18 ∷ [];
 }
 
+-- that timetable's file
 abbrev pub built_words : List ℕ
 built_words =
     0xA0000000 ∷ 0x0 ∷ 0xA000001A ∷ 0x40
     ∷ 0xC000000A ∷ 0x0 ∷ 0xC0000012 ∷ 0x1
     ∷ 0xE0000008 ∷ []
 
--- sheets that are not safe: only task 0 is placed; the read comes one cycle too soon; so with task 1 on the other core;
--- task 0 is in a region that is too small
+-- sheets that are not safe: only task 0 is placed
 abbrev pub begun : Sheet
 begun = with_exec (empty two_task) 0 (Some (record { start = 0; core = 0; region = 0 }))
 
+-- the read comes one cycle too soon
 abbrev pub hasty : Sheet
 hasty = with_transfer built 1 (Some 17)
 
+-- so with task 1 on the other core
 abbrev pub apart : Sheet
 apart = with_exec hasty 1 (Some (record { start = 26; core = 1; region = 0 }))
 
+-- task 0 is in a region that is too small
 abbrev pub cramped : Sheet
 cramped = with_exec built 0 (Some (record { start = 0; core = 0; region = 1 }))
 
@@ -53,6 +57,7 @@ cramped = with_exec built 0 (Some (record { start = 0; core = 0; region = 1 }))
 abbrev pub totals : Sheet → ℕ × ℕ
 totals s = (wanted two_task s, clear two_task s)
 
+-- what is shown of all these
 pub record WorkedCases : Type 0 where
   pub file : written two_task ≡ two_task_words
   pub reads : read_plan two_task_words ≡ Ok two_task

@@ -14,6 +14,7 @@ Asked name files (Err NoCommand) = ⊥
 Asked name files (Err NoFile) = (name ≡ codes "plan") × (length files ≡ 0)
 Asked name files (Err (Unknown x)) = (x.now ≡ name) × (name ≢ codes "help") × (name ≢ codes "plan")
 
+-- r is the command that the words give, or what is wrong with them
 abbrev pub Given : List (String Global) → Result Command Wrong → Type 0
 Given [] r = r ≡ Err NoCommand
 Given (w ∷ ws) r = Asked (string_bytes w) ws r

@@ -1,4 +1,3 @@
-pub mod Meanings
 pub mod Lines
 pub mod Walks
 pub mod Commands

@@ -82,7 +82,7 @@ impl fmt::Display for Detail {
                 let first = Sort(kinds.first().copied());
                 write!(f, "{first}")?;
                 for kind in kinds.iter().skip(1) {
-                    write!(f, " or {}", Sort(Some(*kind)))?;
+                    write!(f, " or {kind}")?;
                 }
                 Ok(())
             }
@@ -108,20 +108,8 @@ struct Sort(Option<Kind>);
 impl fmt::Display for Sort {
     fn fmt<W: fmt::Write>(&self, f: &mut fmt::Formatter<W>) -> fmt::Result {
         match self.0 {
-            Some(kind) => f.write_str(kind_name(kind)),
+            Some(kind) => write!(f, "{kind}"),
             None => f.write_str("a plain word"),
         }
-    }
-}
-
-fn kind_name(kind: Kind) -> &'static str {
-    match kind {
-        Kind::Machine => "a machine",
-        Kind::Regions => "regions",
-        Kind::Task => "a task",
-        Kind::Channel => "a channel",
-        Kind::Exec => "an exec",
-        Kind::Transfer => "a transfer",
-        Kind::End => "an end",
     }
 }

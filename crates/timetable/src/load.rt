@@ -46,12 +46,7 @@ impl fmt::Display for LoadError {
             LoadError::Cut { bytes, .. } => write!(f, "the last word has {} of 4 bytes", bytes % 4),
             LoadError::Token { line, column } => {
                 let (line, column) = (*line, *column);
-                let token = HexError::Token { line, column };
-                let _ = token;
-                write!(
-                    f,
-                    "not words: line {line}, column {column}: a word is eight hexadecimal digits"
-                )
+                write!(f, "not words: {}", HexError::Token { line, column })
             }
         }
     }

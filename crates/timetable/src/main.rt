@@ -4,7 +4,6 @@
 mod command;
 mod detail;
 mod load;
-mod meaning;
 mod report;
 mod steps;
 mod table;

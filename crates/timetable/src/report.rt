@@ -79,7 +79,7 @@ impl<W: Write> Report<'_, W> {
                 writeln!(self.out, "{name}: {count} words and {left} bytes")?;
                 let refused = Refused {
                     name,
-                    fault: Fault::Words(fault),
+                    fault: fault.into(),
                 };
                 writeln!(self.out, "{refused}: {error}")?;
                 Ok(Outcome::Refused)

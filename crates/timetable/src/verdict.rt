@@ -1,10 +1,8 @@
 // The last line on a file. Other programs read it, so its form is fixed.
 ghost use Rattle.std.specs.Prelude.{Some};
-ghost use Rattle.records.specs.Shown.{shown as told};
+ghost use Rattle.records.specs.Shown.{shown as told, fault_text};
 ghost use Rattle.timetable.specs.Lines.{accepted, refused};
-ghost use Rattle.timetable.specs.Meanings.{meaning_of};
 
-use crate::meaning::{layer_name, meaning};
 use records::Fault;
 use std::fmt;
 
@@ -31,16 +29,11 @@ pub struct Refused<'a> {
 }
 
 impl fmt::Display for Refused<'_> {
-    ghost output = { λ x. Some (refused x.name.now (told x.fault) (meaning_of x.fault)) };
+    ghost output = { λ x. Some (refused x.name.now (told x.fault) (fault_text x.fault)) };
 
     fn fmt<W: fmt::Write>(&self, f: &mut fmt::Formatter<W>) -> fmt::Result {
-        let name = self.name;
-        let refusal = self.fault.refusal();
-        let (number, place) = (refusal.number, refusal.place);
-        let (layer, meaning) = (layer_name(refusal.layer), meaning(self.fault));
-        write!(
-            f,
-            "{name}: refused {number} in {layer} at {place}: {meaning}"
-        )
+        let (name, fault) = (self.name, self.fault);
+        let refusal = fault.refusal();
+        write!(f, "{name}: refused {refusal}: {fault}")
     }
 }
