@@ -4,5 +4,6 @@
 mod closed;
 mod draft;
 mod model;
+mod states;
 
-pub use model::{Closed, Draft};
+pub use model::{Closed, Draft, Open, Sheet, Shut};
