@@ -28,7 +28,7 @@ const MISHAPS: [Mishap; 8] = [
     Mishap::OtherNumber,
 ];
 
-// A linear congruential generator, always with the same start.
+// A linear congruential generator, always with the same start. No iterator, since each number has a bound of its own.
 #[derive(Drop)]
 pub struct Dice {
     state: u64,

@@ -187,6 +187,7 @@ impl Trial {
         Ok(())
     }
 
+    // A plan with so many tasks and channels.
     fn counts(&mut self, tasks: u32, channels: u32) -> Result<(), AllocError> {
         let file = varied(self.heap(), tasks, channels)?;
         self.file(Damage::OtherCount, &file)

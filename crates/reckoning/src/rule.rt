@@ -16,6 +16,14 @@ pub enum Rule {
     End = 7,
 }
 
+impl Rule {
+    pub(crate) fn at(self, place: usize) -> Complaint
+        ensures { (result.rule ≡ self) × (result.place ≡ place) }
+    {
+        Complaint { rule: self, place }
+    }
+}
+
 // A rule that is broken, and where. The graver rule comes first, then the earlier place.
 #[derive(Clone, Copy, PartialEq, Eq, PartialOrd, Ord)]
 pub struct Complaint {

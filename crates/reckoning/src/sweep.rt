@@ -49,6 +49,16 @@ impl Part {
         }
     }
 
+    // How many words are due after its first, which has this number.
+    fn width(self, number: u32) -> u32 {
+        match self {
+            Part::Machine => 3,
+            Part::Regions => number,
+            Part::Task | Part::Channel => 1,
+            Part::End => 0,
+        }
+    }
+
     // What the number may be that stands so many words after the part's first.
     fn range(self, offset: usize) -> RangeInclusive<u32>
         ensures { range_inclusive_start result ≤ range_inclusive_end result }
@@ -113,7 +123,7 @@ impl Sweep<'_> {
     fn complain(&mut self, rule: Rule, place: usize)
         ensures { is_some self.new.gravest ≡ true }
     {
-        let complaint = Complaint { rule, place };
+        let complaint = rule.at(place);
         let gravest = self.gravest;
         self.gravest = Some(gravest.map_or(complaint, |before| before.min(complaint)));
     }
@@ -123,15 +133,10 @@ impl Sweep<'_> {
         ensures { IfOk result (λ r. r.opened ≡ place) }
     {
         let before = self.record.map(|record| record.part);
-        let part = match Part::try_from(word) {
-            Ok(part) if part.follows(before) => part,
-            _ => {
-                return Err(Complaint {
-                    rule: Rule::Misplaced,
-                    place,
-                });
-            }
-        };
+        let part = Part::try_from(word)
+            .ok()
+            .filter(|part| part.follows(before))
+            .ok_or(Rule::Misplaced.at(place))?;
         match part {
             Part::Task => self.tasks = self.tasks.saturating_add(1),
             Part::Channel => self.channels = self.channels.saturating_add(1),
@@ -140,12 +145,7 @@ impl Sweep<'_> {
         Ok(Record {
             part,
             opened: place,
-            due: match part {
-                Part::Machine => 3,
-                Part::Regions => number(word),
-                Part::Task | Part::Channel => 1,
-                Part::End => 0,
-            },
+            due: part.width(number(word)),
         })
     }
 
@@ -214,16 +214,8 @@ impl Sweep<'_> {
     // The end is reached only where no word is left.
     fn end(&self) -> Result<(), Complaint> {
         match self.record {
-            Some(
-                Record {
-                    part: Part::End,
-                    ..
-                },
-            ) => Ok(()),
-            _ => Err(Complaint {
-                rule: Rule::Ended,
-                place: self.words.len(),
-            }),
+            Some(record) if record.part == Part::End => Ok(()),
+            _ => Err(Rule::Ended.at(self.words.len())),
         }
     }
 }

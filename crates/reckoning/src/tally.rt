@@ -22,8 +22,8 @@ impl Row {
         match outcome {
             Ok(_) => bump(&mut self.read),
             Err(refusal) => {
-                let before = (refusal.number as usize).wrapping_sub(1);
-                if let Some(files) = self.refused.get_mut(before) {
+                let index = (refusal.number as usize).wrapping_sub(1);
+                if let Some(files) = self.refused.get_mut(index) {
                     bump(files);
                 }
             }

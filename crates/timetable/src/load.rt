@@ -81,8 +81,8 @@ fn decode_raw(heap: Global, bytes: &[u8]) -> Result<Vec<u32>, LoadError>
 pub(crate) fn load(rt: &HostRuntime, name: &str) -> Result<Vec<u32>, LoadError> {
     let bytes = fs::read(rt, name)?;
     if is_text(name) {
-        decode_text(rt.alloc(), bytes.as_slice())
+        decode_text(rt.alloc(), &bytes)
     } else {
-        decode_raw(rt.alloc(), bytes.as_slice())
+        decode_raw(rt.alloc(), &bytes)
     }
 }

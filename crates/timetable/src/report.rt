@@ -66,7 +66,7 @@ struct Report<'a, W> {
 impl<W: Write> Report<'_, W> {
     fn file(&mut self) -> io::Result<Outcome> {
         match load(self.rt, self.name) {
-            Ok(words) => self.words(words.as_slice()),
+            Ok(words) => self.words(&words),
             Err(error) => self.unloaded(error),
         }
     }
