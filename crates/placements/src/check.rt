@@ -16,6 +16,7 @@ pub fn in_time(start: u32, length: u32) -> bool
     u64::from(start) + u64::from(length) <= 536_870_911
 }
 
+// An exec and a transfer have two words each; a type for the place of two words would be opened again at each fault.
 pub(crate) fn exec(
     plan: &Plan,
     place: usize,

@@ -40,7 +40,8 @@ fn total(sizes: &[u32]) -> u64
     total
 }
 
-// Each record has its own number of words at its place, so each of these asks for a bound of its own.
+// Each record has its own number of words, so each of these asks for its own bound; a type for a place of so many words
+// would be opened again at each fault.
 pub(crate) fn machine(
     place: usize,
     cores: u32,

@@ -26,6 +26,7 @@ pub struct Slots {
     pub transfers: Vec<TransferSlot>,
 }
 
+// Slots have no invariant of their own, so each method says that the lengths stay.
 impl Slots {
     // Seats one exec, or empties its slot. There is nothing to do past the last task.
     pub fn set_exec(&mut self, task: usize, seat: Option<Seat>)
