@@ -178,10 +178,10 @@ impl Trial {
     }
 
     fn region_counts(&mut self, size: u32) -> Result<(), AllocError> {
-        let sizes = [size; 12];
-        for had in 0..=sizes.len() {
+        for had in 0..=12 {
+            let sizes: Vec<u32> = iter::repeat_n(size, had).collect(self.heap())?;
             for told in (0..20).chain(iter::once(0x1fff_ffff)) {
-                self.region_count(told, &sizes[..had])?;
+                self.region_count(told, &sizes)?;
             }
         }
         Ok(())

@@ -55,7 +55,7 @@ impl<'a> Iterator for Walk<'a> {
     }
 }
 
-// What stands at a place of a file.
+// What stands at a place of a file. Neither case is an error, so this is no Result.
 #[derive(Clone, Copy)]
 pub enum Spot<'a> {
     // A word of this record, so far behind its first.
