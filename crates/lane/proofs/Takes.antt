@@ -1,15 +1,11 @@
 -- What `taken` says of lists of claims, and of slices of claims.
 use Rattle.std.proofs.Common.{◌≡◌, ℕ, ◌+◌, ◌<◌, ◌≤◌, max, Bool, true, false, ◌||◌, List, [], ◌∷◌, ◌++◌, map, length, get_or, take, drop, sym, refl, ap, ◌∙◌, inl, inr, ⊎_elim, arith, take-append-drop}
-use Rattle.std.proofs.Math.Bool.{or_assoc}
+use Rattle.std.proofs.Math.Bool.{or_assoc, or-false}
 use Rattle.std.proofs.lemmas.List.{map_more, map-append}
 use Rattle.std.proofs.lemmas.Bool.{or_left, or_right, or_from, both_ways, cases_lt}
 use Rattle.std.proofs.lemmas.Bool.Decides.{nat_tests}
 use Rattle.lane.specs.Claims.{Claimed, has, taken, Free, Passed}
 use Rattle.lane.specs.Gaps.{Meets, Past}
-
-or_false : (a : Bool) → (a || false) ≡ a
-or_false true = refl
-or_false false = refl
 
 pub taken_append : (ss ts : List Claimed) (r c : ℕ) → taken (ss ++ ts) r c ≡ (taken ss r c || taken ts r c)
 taken_append [] ts r c = refl
@@ -21,7 +17,7 @@ module _ {C : Type 0} (claimed : C → Claimed) (xs : List C) (i : ℕ) (x : C) 
   taken_more r c =
       ap (λ ss. taken ss r c) (map_more claimed xs i x within)
       ∙ taken_append (map claimed (take i xs)) (claimed (get_or xs i x) ∷ []) r c
-      ∙ ap (λ b. taken (map claimed (take i xs)) r c || b) (or_false (has (claimed (get_or xs i x)) r c) ∙ ap (λ y. has (claimed y) r c) (sym read))
+      ∙ ap (λ b. taken (map claimed (take i xs)) r c || b) (or-false (has (claimed (get_or xs i x)) r c) ∙ ap (λ y. has (claimed y) r c) (sym read))
 
   pub taken_has : (r c : ℕ) → has (claimed x) r c ≡ true → taken (map claimed xs) r c ≡ true
   taken_has r c h =

@@ -1,7 +1,9 @@
 -- The lane counts what is clear.
-use Rattle.std.proofs.Common.{◌≡◌, ℕ, ◌*◌, ◌≤◌, Bool, false, ◌&&◌, leb, List, length, Some, None, Option, sym, refl, ap, ◌∙◌, arith}
+use Rattle.std.proofs.Common.{◌≡◌, ℕ, ◌*◌, ◌≤◌, Bool, true, false, ◌&&◌, leb, List, length, Some, None, Option, sym, refl, ap, ◌∙◌, arith}
 use Rattle.std.proofs.lemmas.List.{get_or_past}
-use Rattle.std.proofs.lemmas.Bool.{and_right}
+use Rattle.std.proofs.Math.Bool.{and_comm}
+use Rattle.std.proofs.lemmas.Bool.{and_right, le-leb}
+use Rattle.std.specs.Bool.{then_some}
 use Rattle.lane.specs.Claims.{Claimed, no_claim, claim_at, sole, counted, alone_count}
 use Rattle.lane.proofs.Counts.{counted_none, counted_same}
 use Rattle.board.specs.Entries.{transfer}
@@ -12,14 +14,11 @@ use Rattle.board.specs.Totals.{ended_by, ready, clear_in, clear_of}
 use Rattle.board.proofs.Claims.{is_transfer, place_of, bus_claims_length, clear_of_bus}
 
 -- ---- clear cycles
-and_swap : (a b : Bool) → (a && b) ≡ (b && a)
-and_swap a b = grind arith
-
 module _ (cs : List Claimed) (i : ℕ) (test : ℕ → Bool) where
   -- the test is passed from a cycle on
   pub clear_from : (from : ℕ) → ((k : ℕ) → leb from k ≡ test k) → alone_count cs i from ≡ clear_in cs i test
   clear_from from h =
-      counted_same (λ k. leb from k && sole cs i k) (λ k. sole cs i k && test k) (claim_at cs i).first (claim_at cs i).length (λ k _ _. and_swap (leb from k) (sole cs i k) ∙ ap (λ b. sole cs i k && b) (h k))
+      counted_same (λ k. leb from k && sole cs i k) (λ k. sole cs i k && test k) (claim_at cs i).first (claim_at cs i).length (λ k _ _. and_comm (leb from k) (sole cs i k) ∙ ap (λ b. sole cs i k && b) (h k))
 
   -- the test is never passed
   pub clear_never : ((k : ℕ) → false ≡ test k) → 0 ≡ clear_in cs i test
@@ -36,6 +35,11 @@ unfolding counted
 clear_transfer_past p s v h =
     let none : claim_at (bus_claims p s) v ≡ no_claim = get_or_past (bus_claims p s) v no_claim (omega (arith, bus_claims_length p s)) in
     sym (clear_transfer_is p s v ∙ ap (λ (c : Claimed). counted (λ k. sole (bus_claims p s) v k && ready p s (transfer v) k) c.first c.length) none)
+
+-- at once, or never
+pub at_once : (b : Bool) (k : ℕ) → ended_by k (then_some b 0) ≡ b
+at_once true k = le-leb 0 k (omega arith)
+at_once false k = refl
 
 -- clear from where the test is passed, or never
 pub clear_by : (cs : List Claimed) (i n : ℕ) (test : ℕ → Bool) (o : Option ℕ) → ((k : ℕ) → ended_by k o ≡ test k) → (o ≡ None → n ≡ 0) → ((from : ℕ) → o ≡ Some from → n ≡ alone_count cs i from) → n ≡ clear_in cs i test

@@ -1,5 +1,6 @@
 -- What a task's exec waits for, channel by channel.
 use Rattle.std.proofs.Common.{◌≡◌, ℕ, ◌+◌, ◌-◌, ◌<◌, ◌≤◌, max, Bool, true, false, cond, ◌&&◌, eqb, leb, List, [], ◌∷◌, map, length, Some, None, filter, sym, refl, ap, ◌∙◌, arith}
+use Rattle.std.proofs.Math.Bool.{and_assoc, and-true}
 use Rattle.std.proofs.lemmas.Bool.Decides.{nat_tests}
 use Rattle.std.specs.List.{range_with_len, list_all}
 use Rattle.std.proofs.lemmas.Bool.{le-leb}
@@ -8,14 +9,6 @@ use Rattle.board.specs.Plans.{PlanView}
 use Rattle.board.specs.Sheets.{Sheet, end}
 use Rattle.board.specs.Totals.{ended_by, ready}
 use Rattle.board.proofs.Rests.{rest_all, rest_more, rest_none}
-
-and_assoc : (a b c : Bool) → (a && (b && c)) ≡ ((a && b) && c)
-and_assoc true b c = refl
-and_assoc false b c = refl
-
-and_true : (a : Bool) → (a && true) ≡ a
-and_true true = refl
-and_true false = refl
 
 -- the reads into a task have ended, or a channel is no other's concern
 module _ (p : PlanView) (s : Sheet) (t k : ℕ) where
@@ -38,10 +31,10 @@ module _ (p : PlanView) (s : Sheet) (t k : ℕ) where
       ∙ waiting_kept (range_with_len 0 (length p.channels))
 
   pub waiting_more : (b : Bool) (i : ℕ) → i < length p.channels → (b && list_all awaits (range_with_len i (length p.channels - i))) ≡ ((b && awaits i) && list_all awaits (range_with_len (i + 1) (length p.channels - (i + 1))))
-  waiting_more b i h = ap (λ cs. b && list_all awaits cs) (rest_more (length p.channels) i h) ∙ and_assoc b (awaits i) _
+  waiting_more b i h = ap (λ cs. b && list_all awaits cs) (rest_more (length p.channels) i h) ∙ sym (and_assoc b (awaits i) _)
 
   pub waiting_none : (b : Bool) (i : ℕ) → length p.channels ≤ i → (b && list_all awaits (range_with_len i (length p.channels - i))) ≡ b
-  waiting_none b i h = ap (λ cs. b && list_all awaits cs) (rest_none (length p.channels) i h) ∙ and_true b
+  waiting_none b i h = ap (λ cs. b && list_all awaits cs) (rest_none (length p.channels) i h) ∙ and-true b
 
   -- a channel into the task, whose read ends then, and any other channel
   pub waiting_into : (at m i : ℕ) → i < length p.channels → eqb (consumer p i) t ≡ true → Some m ≡ end p s (read i) → (ended_by k (Some at) && list_all awaits (range_with_len i (length p.channels - i))) ≡ (ended_by k (Some (max m at)) && list_all awaits (range_with_len (i + 1) (length p.channels - (i + 1))))
@@ -57,7 +50,7 @@ module _ (p : PlanView) (s : Sheet) (t k : ℕ) where
   waiting_past at i h e =
       waiting_more (ended_by k (Some at)) i h
       ∙ ap (λ b. b && list_all awaits (range_with_len (i + 1) (length p.channels - (i + 1))))
-      (ap (λ o. ended_by k (Some at) && ended_by k o) (ap (λ b. cond b (end p s (read i)) (Some 0)) e) ∙ ap (λ b. ended_by k (Some at) && b) (le-leb 0 k (omega arith)) ∙ and_true (ended_by k (Some at)))
+      (ap (λ o. ended_by k (Some at) && ended_by k o) (ap (λ b. cond b (end p s (read i)) (Some 0)) e) ∙ ap (λ b. ended_by k (Some at) && b) (le-leb 0 k (omega arith)) ∙ and-true (ended_by k (Some at)))
 
   -- a read into the task that is not placed
   pub waiting_never : (b : Bool) (i : ℕ) → i < length p.channels → eqb (consumer p i) t ≡ true → None ≡ end p s (read i) → (b && list_all awaits (range_with_len i (length p.channels - i))) ≡ false

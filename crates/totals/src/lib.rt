@@ -1,7 +1,6 @@
 // The totals of a sheet, by claims on the lane: wanted, and how many cycles are clear.
 #![tactic(auto)]
 
-mod all;
 mod clears;
 mod ends;
 mod stays;

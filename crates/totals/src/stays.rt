@@ -1,13 +1,14 @@
-// The stay of one task.
-ghost use Rattle.std.specs.Prelude.{◌≡◌, ℕ, ◌+◌, ◌≤◌, min, max, if◌then◌else◌, Some as there, None as nothing};
+// The stays of the tasks.
+ghost use Rattle.std.specs.Prelude.{◌≡◌, ℕ, ◌+◌, ◌≤◌, min, max, map, if◌then◌else◌, Some as there, None as nothing};
 ghost use Rattle.std.specs.Option.{option_map};
 ghost use Rattle.board.specs.Entries.{exec as exec_of};
 ghost use Rattle.board.specs.Sheets.{seat_of, start, end};
-ghost use Rattle.board.specs.Stays.{of_two, first_start, last_end, stay_claim};
+ghost use Rattle.board.specs.Stays.{of_two, first_start, last_end, stay_claim, stay_claims};
 ghost use Rattle.table.specs.Tables.{plan_in, sheet};
 ghost use Rattle.totals.specs.Spans.{span_of};
 
 use crate::ends::exec_end;
+use arrayvec::ArrayVec;
 use lane::Span;
 use slots::TransferSlot;
 use table::Table;
@@ -70,5 +71,25 @@ pub fn stay(table: &Table<'_>, task: usize) -> Span
         resource: seat.core * 8 + seat.region,
         first: reach.first,
         length: reach.end - reach.first,
+    }
+}
+
+// The stays of a table's tasks, by task; no plan has more than 64.
+#[derive(Drop)]
+pub(crate) struct Stays<'t, 'p> {
+    pub(crate) table: &'t Table<'p>,
+    pub(crate) spans: ArrayVec<Span, 64>,
+    ghost claims: { map span_of spans.items ≡ stay_claims (plan_in table.now) (sheet table.now) },
+}
+
+impl<'t, 'p> Stays<'t, 'p> {
+    pub(crate) fn of(table: &'t Table<'p>) -> Stays<'t, 'p>
+        ensures { result.table ≡ table.entry }
+    {
+        let mut spans = ArrayVec::new();
+        for task in 0..table.plan().tasks().len() {
+            spans.push(stay(table, task));
+        }
+        Stays { table, spans }
     }
 }

@@ -8,8 +8,8 @@ ghost use Rattle.board.specs.Stays.{stay_claims};
 ghost use Rattle.board.specs.Totals.{wanted, clear, clear_of, clear_stay};
 ghost use Rattle.table.specs.Tables.{plan_in, sheet};
 
-use crate::all::Stays;
 use crate::clears::{clear_exec, clear_transfer};
+use crate::stays::Stays;
 use slots::Slot;
 use table::Table;
 

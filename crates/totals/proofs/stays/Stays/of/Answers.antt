@@ -3,7 +3,7 @@ use Rattle.std.proofs.lemmas.List.FromFn.{map-range_with_len_more}
 use Rattle.std.proofs.lemmas.List.{map_push}
 use Rattle.totals.specs.Spans.{span_of}
 use Rattle.totals.proofs.Staying.{the_stay}
-use Rattle.totals.proofs.all.Stays.of.Goals as goal
+use Rattle.totals.proofs.stays.Stays.of.Goals as goal
 
 pub loop-task-preserved : goal.loop-task-preserved
 loop-task-preserved c =

@@ -3,7 +3,7 @@ use Rattle.std.specs.List.{range_with_len}
 use Rattle.arrayvec.specs.ArrayVec.{array_vec_len}
 use Rattle.totals.specs.Spans.{span_of}
 use Rattle.totals.proofs.Staying.{the_stay}
-use Rattle.totals.proofs.all.Stays.of.Given as goal
+use Rattle.totals.proofs.stays.Stays.of.Given as goal
 
 abbrev pub invariant-loop-task : goal.invariant-loop-task
 invariant-loop-task l =

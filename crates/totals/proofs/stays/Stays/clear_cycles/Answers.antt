@@ -5,7 +5,7 @@ use Rattle.board.specs.Totals.{clear_stay}
 use Rattle.board.proofs.Claims.{stay_claims_length}
 use Rattle.table.specs.Tables.{plan_in, sheet}
 use Rattle.totals.specs.Spans.{span_of}
-use Rattle.totals.proofs.all.Stays.clear_cycles.Goals as goal
+use Rattle.totals.proofs.stays.Stays.clear_cycles.Goals as goal
 
 pub returns : goal.returns
 returns c =
