@@ -8,4 +8,4 @@ abbrev pub sheet_in : Placements → Sheet
 sheet_in g = record { execs = g.execs.items; transfers = g.transfers.items }
 
 abbrev pub loaded : Loaded → LoadedView
-loaded l = loaded_of (sheet_in l.found) l.next_task l.next_value
+loaded l = loaded_of (sheet_in l.placements) l.next_task l.next_value

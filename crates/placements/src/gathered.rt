@@ -12,7 +12,7 @@ pub struct Placements {
 // The placements so far, and the least task and the least side that may still come in the file.
 #[derive(Drop)]
 pub(crate) struct Loaded {
-    pub(crate) found: Placements,
+    pub(crate) placements: Placements,
     pub(crate) next_task: usize,
     pub(crate) next_value: usize,
 }

@@ -12,7 +12,7 @@ use crate::gathered::{Loaded, Placements};
 use arrayvec::ArrayVec;
 use board::Seat;
 use plan::Plan;
-use records::{FileRules, read};
+use records::{FileRules, Found, read};
 use words::{Kind, Record};
 
 // The rules of the timetable files of a plan.
@@ -46,18 +46,18 @@ impl FileRules for TimetableRules<'_> {
         let mut transfers = ArrayVec::from([None; 512]);
         transfers.truncate(2 * self.plan.channels().len());
         Loaded {
-            found: Placements { execs, transfers },
+            placements: Placements { execs, transfers },
             next_task: 0,
             next_value: 0,
         }
     }
 
-    fn add(&self, so_far: &mut Loaded, found: Record<'_>, place: usize) -> Result<(), Fault> {
-        match found {
+    fn add(&self, so_far: &mut Loaded, found: Found<'_>) -> Result<(), Fault> {
+        match found.says {
             Record::Exec { start, seat } => {
-                exec(self.plan, place, start, seat, so_far.next_task)?;
+                exec(self.plan, found.place, start, seat, so_far.next_task)?;
                 let (task, core, region) = (seat as usize / 64, seat / 8 % 8, seat % 8);
-                if let Some(cell) = so_far.found.execs.get_mut(task) {
+                if let Some(cell) = so_far.placements.execs.get_mut(task) {
                     *cell = Some(Seat {
                         start,
                         core,
@@ -67,9 +67,9 @@ impl FileRules for TimetableRules<'_> {
                 so_far.next_task = task + 1;
             }
             Record::Transfer { start, side } => {
-                transfer(self.plan, place, start, side, so_far.next_value)?;
+                transfer(self.plan, found.place, start, side, so_far.next_value)?;
                 let value = side as usize;
-                if let Some(cell) = so_far.found.transfers.get_mut(value) {
+                if let Some(cell) = so_far.placements.transfers.get_mut(value) {
                     *cell = Some(start);
                 }
                 so_far.next_value = value + 1;
@@ -94,6 +94,6 @@ impl Placements {
         ensures { MatchResult result (λ g. read_sheet (view plan.now) words.now ≡ Ok (sheet_in g)) (λ e. read_sheet (view plan.now) words.now ≡ Err (shown e)) }
     {
         let loaded = read(&TimetableRules { plan }, words)?;
-        Ok(loaded.found)
+        Ok(loaded.placements)
     }
 }

@@ -3,7 +3,7 @@ use Rattle.std.specs.Prelude.{◌≡◌, ℕ, false, List, length, Some, None, O
 use Rattle.words.specs.declared.fault.Refusal.{Refusal}
 use Rattle.words.specs.declared.kind.Kind.{Kind}
 use Rattle.words.specs.declared.reader.Reader.{Reader}
-use Rattle.words.specs.declared.record.Record.{Record}
+use Rattle.records.specs.declared.found.Found.{Found}
 use Rattle.words.specs.Records.{Said, end, and_then, record_at}
 use Rattle.words.specs.Seen.{said, counted}
 use Rattle.records.specs.declared.fault.Fault.{Fault}
@@ -22,11 +22,11 @@ abbrev pub Adds : {S F : Type 0} → Rules S → (F → Refusal) → S → ℕ �
 Adds rules tells s place x (Ok _) new = (rules.why s place x ≡ Ok tt) × (new ≡ rules.then s x)
 Adds rules tells s place x (Err f) new = rules.why s place x ≡ Err (tells f)
 
--- the next record and its place, and the reader then stands behind it in the same file; or none, where it is an end that closes the file
-abbrev pub Comes : List Kind → Reader → Result (Option (ℕ × Record)) Fault → Reader → Type 0
-Comes kinds old (Ok (Some (place, x))) new =
-    (place ≡ old.place) × (is_end (said x) ≡ false)
-    × (record_at kinds old.place old.rest.now ≡ Ok (said x, new.rest.now)) × (counted new ≡ counted old)
+-- the next record, and the reader then stands behind it in the same file; or none, where it is an end that closes the file
+abbrev pub Comes : List Kind → Reader → Result (Option Found) Fault → Reader → Type 0
+Comes kinds old (Ok (Some x)) new =
+    (x.place ≡ old.place) × (is_end (said x.says) ≡ false)
+    × (record_at kinds old.place old.rest.now ≡ Ok (said x.says, new.rest.now)) × (counted new ≡ counted old)
 Comes kinds old (Ok None) new =
     (n : ℕ) × (record_at kinds old.place old.rest.now ≡ Ok (end n, new.rest.now)) × (closing old.place (length old.rest.now) (end n) ≡ Ok tt)
 Comes kinds old (Err f) new =

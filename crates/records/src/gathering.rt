@@ -8,6 +8,7 @@ ghost use Rattle.std.proofs.Common.{rules};
 
 use crate::check::{channel, machine, regions, task};
 use crate::fault::Fault;
+use crate::found::Found;
 use crate::gathered::Gathered;
 use crate::rules::{FileRules, read};
 use arrayvec::ArrayVec;
@@ -49,8 +50,9 @@ impl FileRules for PlanRules {
         }
     }
 
-    fn add(&self, so_far: &mut Gathered, found: Record<'_>, place: usize) -> Result<(), Fault> {
-        match found {
+    fn add(&self, so_far: &mut Gathered, found: Found<'_>) -> Result<(), Fault> {
+        let Found { place, says } = found;
+        match says {
             Record::Machine {
                 cores,
                 slot_time,

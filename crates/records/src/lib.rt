@@ -3,12 +3,14 @@
 
 mod check;
 mod fault;
+mod found;
 mod gathered;
 mod gathering;
 mod rules;
 
 pub use check::{closing, within};
 pub use fault::Fault;
+pub use found::Found;
 pub use gathered::Gathered;
 pub use gathering::gather;
 pub use rules::{FileRules, read};

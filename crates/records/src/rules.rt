@@ -1,6 +1,6 @@
 // Reads a file by the rules of its kind: each record is taken, checked and gathered, and the first refusal stands.
-ghost use Rattle.std.specs.Prelude.{◌≡◌, ℕ, ◌+◌, ◌^◌, ◌<◌, length, Ok, Err, MatchResult};
-ghost use Rattle.words.specs.Records.{words_of, end, Placed};
+ghost use Rattle.std.specs.Prelude.{◌≡◌, ℕ, Ok, Err, MatchResult};
+ghost use Rattle.words.specs.Records.{end};
 ghost use Rattle.words.specs.Seen.{said};
 ghost use Rattle.words.specs.declared.fault.Refusal.{Refusal};
 ghost use Rattle.board.specs.Files.{Rules, reads};
@@ -10,6 +10,7 @@ ghost use Rattle.records.specs.Shown.{shown};
 
 use crate::check::closing;
 use crate::fault::Fault;
+use crate::found::Found;
 use words::{Kind, Reader, Record};
 
 // The rules of a kind of file, and what is gathered from such a file.
@@ -36,15 +37,8 @@ pub trait FileRules {
         ensures { state result ≡ (rules self.now).none };
 
     // One record more, or why it may not stand at this place.
-    fn add(
-        &self,
-        so_far: &mut Self::Gathered,
-        found: Record<'_>,
-        place: usize,
-    ) -> Result<(), Self::Fault>
-        requires fits { place + length (words_of (said found)) < 2 ^ 64 }
-        requires placed { Placed place (said found) }
-        ensures { Adds (rules self.now) told (state so_far.old) place (said found.entry) result (state so_far.new) };
+    fn add(&self, so_far: &mut Self::Gathered, found: Found<'_>) -> Result<(), Self::Fault>
+        ensures { Adds (rules self.now) told (state so_far.old) found.entry.place (said found.entry.says) result (state so_far.new) };
 
     // They ask nothing of an end but what every file asks of it.
     ghost ends: { (x : Self) (s : State) (place n : ℕ) → (rules x).why s place (end n) ≡ Ok tt };
@@ -53,8 +47,8 @@ pub trait FileRules {
     ghost tells: { (e : RecordsFault) (f : Self.Fault) → Self.Fault.from_gives e f → told f ≡ shown e };
 }
 
-// The next record and its place, or none where it is an end, which has to close the file.
-fn next<'a>(reader: &mut Reader<'a>, kinds: &[Kind]) -> Result<Option<(usize, Record<'a>)>, Fault>
+// The next record, or none where it is an end, which has to close the file.
+fn next<'a>(reader: &mut Reader<'a>, kinds: &[Kind]) -> Result<Option<Found<'a>>, Fault>
     ensures { Comes kinds.now reader.old result reader.new }
 {
     let (place, left) = (reader.place(), reader.left());
@@ -63,7 +57,7 @@ fn next<'a>(reader: &mut Reader<'a>, kinds: &[Kind]) -> Result<Option<(usize, Re
             closing(place, count, left)?;
             Ok(None)
         }
-        found => Ok(Some((place, found))),
+        says => Ok(Some(Found { place, says })),
     }
 }
 
@@ -74,9 +68,9 @@ pub fn read<R: FileRules>(rules: &R, words: &[u32]) -> Result<R::Gathered, R::Fa
     let mut reader = Reader::new(words);
     let mut kinds = rules.first();
     let mut so_far = rules.nothing();
-    while let Some((place, found)) = next(&mut reader, kinds)? {
-        rules.add(&mut so_far, found, place)?;
-        kinds = found.follows();
+    while let Some(found) = next(&mut reader, kinds)? {
+        rules.add(&mut so_far, found)?;
+        kinds = found.says.follows();
     }
     Ok(so_far)
 }

@@ -1,2 +1,3 @@
 mod Inverses
 pub mod Taking
+pub mod Props
