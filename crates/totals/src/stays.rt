@@ -46,6 +46,7 @@ fn reach_of(table: &Table<'_>, task: usize, exec: Reach) -> Reach
 {
     let slots = table.transfers();
     let mut reach = exec;
+    // By number: the slots of a channel lie at twice its number and behind that. Pairs of slots were no plainer.
     for (number, channel) in table.plan().channels().iter().enumerate() {
         reach = reach
             .with(channel.to == task, &slots[2 * number + 1])

@@ -46,7 +46,7 @@ fn clear_cycles(table: &Table<'_>) -> u64
 }
 
 impl Stays<'_, '_> {
-    // The lengths of all stays.
+    // The lengths of all stays: spans and slots share no more than this line of std, so one function were no plainer.
     fn lengths(&self) -> u64
         ensures { result ≡ sum_by (λ c. c.length) (stay_claims (plan_in self.now.table.now) (sheet self.now.table.now)) }
     {
