@@ -1,5 +1,6 @@
 -- Sheets that fit their plan, and what keeps them so: setting or emptying one entry.
-use Rattle.std.proofs.Common.{◌≡◌, ℕ, ◌+◌, ◌*◌, ◌/◌, ◌%◌, ◌<◌, ◌≤◌, true, eqb, ◌⊎◌, List, length, get_or, set, Some, None, Option, sym, refl, ap, ◌∙◌, inl, inr, arith}
+use Rattle.std.proofs.Common.{◌≡◌, ℕ, ◌+◌, ◌*◌, ◌/◌, ◌%◌, ◌<◌, ◌≤◌, true, eqb, ◌⊎◌, List, length, get_or, set, Some, None, Option, sym, ap, ◌∙◌, inl, inr, arith}
+use Rattle.std.proofs.lemmas.Option.{none-some}
 use Rattle.std.proofs.lemmas.List.{length-set, length-replicate, set_past}
 use Rattle.std.proofs.lemmas.Bool.{cases_Bool, cases_lt}
 use Rattle.std.proofs.lemmas.Bool.Decides.{nat_tests}
@@ -8,11 +9,11 @@ use Rattle.board.specs.declared.Entry.TheVariants.{Exec, Write, Read}
 use Rattle.board.specs.declared.Seat.{Seat}
 use Rattle.board.specs.Entries.{Entry, exec, write, read, transfer, length_of}
 use Rattle.board.specs.Placing.{entry_of, known, put, cleared}
-use Rattle.board.specs.Plans.{PlanView, transfer_length}
+use Rattle.board.specs.Plans.{PlanView}
 use Rattle.board.specs.Sheets.{Sheet, Fits, Starts, start, empty, with_exec, with_transfer}
 use Rattle.board.proofs.Entries.{transfer_write, transfer_read}
 use Rattle.board.proofs.Rows.{set_either, free_yet}
-use Rattle.board.proofs.Starts.{some_is, none_is, seat_from, seat_starts}
+use Rattle.board.proofs.Starts.{some_is, seat_from, seat_starts}
 
 -- ---- the transfer of a value
 pub transfer_start : (s : Sheet) (v : ℕ) → start s (transfer v) ≡ get_or s.transfers v None
@@ -21,9 +22,6 @@ transfer_start s v =
       | inl e ↦ let k : 2 * (v / 2) ≡ v = grind (arith, nat_tests) in rw e (ap (λ n. get_or s.transfers n None) k)
       | inr e ↦ let k : 2 * (v / 2) + 1 ≡ v = grind (arith, nat_tests) in rw e (ap (λ n. get_or s.transfers n None) k)
     ]
-
-pub transfer_takes : (p : PlanView) (v : ℕ) → length_of p (transfer v) ≡ transfer_length p (v / 2)
-transfer_takes p v = elim (cases_Bool (eqb (v % 2) 0)) [ inl e ↦ rw e refl | inr e ↦ rw e refl ]
 
 -- what stands in a row with one place set stood there before, or was set
 set_gives : {A : Type 0} (xs : List A) (i k : ℕ) (a d b : A) → get_or (set xs i a) k d ≡ b → ((k ≡ i) × (a ≡ b)) ⊎ (get_or xs k d ≡ b)
@@ -85,20 +83,20 @@ module _ (p : PlanView) (s : Sheet) (f : Fits p s) where
   put_fits (Read c) a k l = transfer_fits (2 * c + 1) (Some a) (λ b e. omega (arith, ap (length_of p) (transfer_read c), some_is a b e))
 
   pub cleared_fits : (n : Named) → Fits p (cleared s n)
-  cleared_fits (Exec t core region) = exec_fits t None (λ x e. absurd (none_is x e))
-  cleared_fits (Write c) = transfer_fits (2 * c) None (λ a e. absurd (none_is a e))
-  cleared_fits (Read c) = transfer_fits (2 * c + 1) None (λ a e. absurd (none_is a e))
+  cleared_fits (Exec t core region) = exec_fits t None (λ x e. absurd (none-some x e))
+  cleared_fits (Write c) = transfer_fits (2 * c) None (λ a e. absurd (none-some a e))
+  cleared_fits (Read c) = transfer_fits (2 * c + 1) None (λ a e. absurd (none-some a e))
 
 -- nothing placed
 pub empty_fits : (p : PlanView) → Fits p (empty p)
 empty_fits p = record {
   execs = length-replicate (length p.tasks) None;
   transfers = length-replicate (2 * length p.channels) None;
-  seats = λ t x h. absurd (none_is x (sym (free_yet (length p.tasks) t) ∙ h));
+  seats = λ t x h. absurd (none-some x (sym (free_yet (length p.tasks) t) ∙ h));
   ends = λ e a h. absurd (unstarted e a h);
 }
   where
     unstarted : (e : Entry) (a : ℕ) → Starts (empty p) e a → ⊥
-    unstarted (exec t) a h = let (x, xt, q) = seat_from (empty p) t a h in none_is x (sym (free_yet (length p.tasks) t) ∙ xt)
-    unstarted (write c) a h = none_is a (sym (free_yet (2 * length p.channels) (2 * c)) ∙ h)
-    unstarted (read c) a h = none_is a (sym (free_yet (2 * length p.channels) (2 * c + 1)) ∙ h)
+    unstarted (exec t) a h = let (x, xt, q) = seat_from (empty p) t a h in none-some x (sym (free_yet (length p.tasks) t) ∙ xt)
+    unstarted (write c) a h = none-some a (sym (free_yet (2 * length p.channels) (2 * c)) ∙ h)
+    unstarted (read c) a h = none-some a (sym (free_yet (2 * length p.channels) (2 * c + 1)) ∙ h)

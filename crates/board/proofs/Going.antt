@@ -3,32 +3,11 @@ use Rattle.std.proofs.Common.{◌≡◌, ℕ, ◌+◌, ◌<◌, true, false, Lis
 use Rattle.words.specs.declared.fault.Fault.{Fault}
 use Rattle.words.specs.declared.fault.Refusal.{Refusal}
 use Rattle.words.specs.declared.kind.Kind.{Kind}
-use Rattle.words.specs.declared.record.Record.{Record}
-use Rattle.words.specs.declared.record.Record.TheVariants as r
-use Rattle.words.specs.Records.{Said, machine, regions, task, channel, exec, transfer, end, words_of, and_then, record_at, follows}
-use Rattle.words.specs.Seen.{said}
+use Rattle.words.specs.Records.{Said, words_of, and_then, record_at, follows}
 use Rattle.words.proofs.Taking.{taken_shorter, taken_less}
 use Rattle.board.specs.Files.{Checked, ◌also◌, is_end, closing, told, Rules, walk, next, reads}
+use Rattle.board.proofs.Passing.{unclosing}
 use Rattle.board.proofs.Walking.{next_ok, walk_more, walk_end, walk_fault}
-
--- only an end has to close the file
-no_end : (place left : ℕ) (x : Said) → is_end x ≡ false → closing place left x ≡ Ok tt
-no_end place left (machine c t d s) e = refl
-no_end place left (regions at ns) e = refl
-no_end place left (task limit local) e = refl
-no_end place left (channel bytes pair) e = refl
-no_end place left (exec start seat) e = refl
-no_end place left (transfer start side) e = refl
-no_end place left (end n) e = cc
-
-pub not_end : (x : Record) → ((n : ℕ) → x ≡ r.End n → ⊥) → is_end (said x) ≡ false
-not_end (r.Machine c t d s) h = refl
-not_end (r.Regions at ns) h = refl
-not_end (r.Task limit local) h = refl
-not_end (r.Channel bytes pair) h = refl
-not_end (r.Exec start seat) h = refl
-not_end (r.Transfer start side) h = refl
-not_end (r.End n) h = absurd (h n refl)
 
 module _ {S : Type 0} (r : Rules S) where
   -- the words from here on decide, behind what was read
@@ -51,7 +30,7 @@ module _ {S : Type 0} (r : Rules S) where
   pub next_more : (s : S) (kinds : List Kind) (place q : ℕ) (rest after : List ℕ) (x : Said) (y : Checked) → q ≡ place → is_end x ≡ false → record_at kinds place rest ≡ Ok (x, after) → r.why s q x ≡ y → next r kinds s place rest ≡ and_then y (λ _. Ok (x, after))
   next_more s kinds place q rest after x y a e t w =
       ap (λ y. and_then (told y) (Checking s place rest)) t
-      ∙ ap (λ c. and_then (c also r.why s place x) (λ _. Ok (x, after))) (no_end place (length rest) x e)
+      ∙ ap (λ c. and_then (c also r.why s place x) (λ _. Ok (x, after))) (unclosing place (length rest) x e)
       ∙ ap (λ y. and_then y (λ _. Ok (x, after))) (rw (← a) w)
 
   -- the whole file, before anything was read

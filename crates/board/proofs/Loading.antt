@@ -1,6 +1,7 @@
 -- The law of loading: words are loaded as a sheet of a plan exactly when the sheet fits the plan and they are its written form.
 use Rattle.std.proofs.Common.{◌≡◌, ℕ, zero, suc, ◌+◌, ◌*◌, ◌/◌, ◌<◌, ◌≤◌, true, false, List, [], ◌∷◌, ◌++◌, length, get_or, Some, None, Ok, Err, Option, Result, sym, refl, ap, ◌∙◌, arith}
 use Rattle.std.specs.List.{range_with_len, flat_map}
+use Rattle.std.proofs.lemmas.Grind.{flat_map-append}
 use Rattle.std.proofs.lemmas.List.{append_assoc, append-nil, length-append}
 use Rattle.std.proofs.lemmas.Bool.Decides.{nat_tests}
 use Rattle.words.specs.declared.fault.Refusal.{Refusal}
@@ -221,10 +222,7 @@ lead_execs p s w f (suc n) t l place m u x r q =
 
 -- how long its file is
 words_append : (xs ys : List Said) → length (flat_map words_of (xs ++ ys)) ≡ length (flat_map words_of xs) + length (flat_map words_of ys)
-words_append [] ys = omega arith
-words_append (x ∷ xs) ys =
-    let i = words_append xs ys in
-    simp length-append (omega arith)
+words_append xs ys = ap length (flat_map-append words_of xs ys) ∙ length-append (flat_map words_of xs) (flat_map words_of ys)
 
 words_within : (g : ℕ → List Said) (a n : ℕ) → ((k : ℕ) → length (flat_map words_of (g k)) ≤ 2) → length (flat_map words_of (flat_map g (range_with_len a n))) ≤ 2 * n
 words_within g a zero two = omega arith

@@ -1,5 +1,6 @@
 -- A sheet is sound exactly where no run has a fault.
 use Rattle.std.proofs.Common.{◌≡◌, ℕ, ◌+◌, ◌-◌, ◌<◌, ◌≤◌, ◌≢◌, ◌⊎◌, length, get_or, Some, None, Option, sym, refl, ◌∙◌, inl, inr, arith}
+use Rattle.std.proofs.lemmas.Option.{none-some}
 use Rattle.std.proofs.lemmas.Bool.{cases_lt}
 use Rattle.board.specs.declared.Seat.{Seat}
 use Rattle.board.specs.Entries.{Entry, exec, Holds, length_of}
@@ -9,7 +10,7 @@ use Rattle.board.specs.Sheets.{Sheet, start, Starts, Seated}
 use Rattle.board.specs.Sound.{Sound, Before, SoundMeansNoFault}
 use Rattle.board.proofs.Counts.{apart}
 use Rattle.board.proofs.Entries.{awaited_held, length_low}
-use Rattle.board.proofs.Starts.{none_is, seat_starts, seated_at}
+use Rattle.board.proofs.Starts.{seat_starts, seated_at}
 use Rattle.board.proofs.Stays.{Stay, stay, stay_low, before_from}
 
 module _ (p : PlanView) (s : Sheet) (v : Valid p) where
@@ -20,7 +21,7 @@ module _ (p : PlanView) (s : Sheet) (v : Valid p) where
       omega (arith, run x.closer x.closer_own.0, x.within, y.within)
 
   sound_no_fault : Sound p s → Faultless p s
-  sound_no_fault g r run (unplaced e h n) = let q = g.placed e h in none_is q.0 (sym n ∙ q.1)
+  sound_no_fault g r run (unplaced e h n) = let q = g.placed e h in none-some q.0 (sym n ∙ q.1)
   sound_no_fault g r run (one_core t u x y k lt lu d xt yu c i j) = elim (g.cores t u x y lt lu d xt yu c x.start y.start (seat_starts s t x xt) (seat_starts s u y yu)) [ inl q ↦ omega (arith, run (exec t) lt) | inr q ↦ omega (arith, run (exec u) lu) ]
   sound_no_fault g r run (one_bus e f a b k te tf he hf d se sf i j) = elim (g.bus e f te tf he hf d a b se sf) [ inl q ↦ omega (arith, run e he) | inr q ↦ omega (arith, run f hf) ]
   sound_no_fault g r run (too_early e w a b h m se sw l) = omega (arith, g.waits e w a b h m se sw, run w (awaited_held p v e w h m))

@@ -97,14 +97,15 @@ walk_came r kinds s place ws z h = came_within r (length ws) kinds s place ws z 
 abbrev pub EndsFreely : {S : Type 0} → Rules S → Type 0
 EndsFreely {S} r = (s : S) (place n : ℕ) → r.why s place (end n) ≡ Ok tt
 
-unclosing : (place left : ℕ) (x : Said) → is_end x ≡ false → closing place left x ≡ Ok tt
+-- only an end has to close the file
+pub unclosing : (place left : ℕ) (x : Said) → is_end x ≡ false → closing place left x ≡ Ok tt
 unclosing place left (machine c t d s) e = refl
 unclosing place left (regions at ns) e = refl
 unclosing place left (task limit local) e = refl
 unclosing place left (channel bytes pair) e = refl
 unclosing place left (exec start seat) e = refl
 unclosing place left (transfer start side) e = refl
-unclosing place left (end n) e = absurd (let q : ◌≡◌ {A = ℕ} 0 1 = grind arith in omega arith)
+unclosing place left (end n) e = cc
 
 closes : (place : ℕ) → closing place 1 (end place) ≡ Ok tt
 closes place = grind (arith, nat_tests)

@@ -1,5 +1,6 @@
 -- Where the entries of a sheet start and end.
-use Rattle.std.proofs.Common.{◌≡◌, ℕ, ◌+◌, Some, None, Option, sym, refl, ap, ◌∙◌, arith}
+use Rattle.std.proofs.Common.{◌≡◌, ℕ, ◌+◌, Some, None, Option, sym, refl, ap, ◌∙◌}
+use Rattle.std.proofs.lemmas.Option.{none-some}
 use Rattle.std.specs.Option.{option_map}
 use Rattle.board.specs.declared.Seat.{Seat}
 use Rattle.board.specs.Entries.{Entry, exec, length_of}
@@ -9,12 +10,9 @@ use Rattle.board.specs.Sheets.{Sheet, seat_of, start, end, Starts, Seated}
 pub some_is : {A : Type 0} (a b : A) → Some a ≡ Some b → a ≡ b
 some_is a b e = cc
 
-pub none_is : {A : Type 0} (a : A) → None ≡ Some a → ⊥
-none_is a e = let z : ◌≡◌ {A = ℕ} 0 1 = cc in omega arith
-
 -- what is mapped comes from something
 mapped_from : {A B : Type 0} (f : A → B) (o : Option A) (b : B) → option_map f o ≡ Some b → (a : A) × (o ≡ Some a) × (f a ≡ b)
-mapped_from f None b h = absurd (none_is b h)
+mapped_from f None b h = absurd (none-some b h)
 mapped_from f (Some a) b h = (a, refl, some_is (f a) b h)
 
 -- ---- a placed exec and its seat

@@ -1,5 +1,6 @@
 -- The stay of a task that is placed: from its first start to its last end.
 use Rattle.std.proofs.Common.{◌≡◌, ℕ, ◌+◌, ◌<◌, ◌≤◌, min, max, ◌⊎◌, List, [], ◌∷◌, length, Some, None, Option, sym, refl, ap, ◌∙◌, inl, inr, arith}
+use Rattle.std.proofs.lemmas.Option.{none-some}
 use mathlib.Core.List.Memᴰ.{cases_cons}
 use mathlib.Core.List.Memᴰ.{head as here}
 use mathlib.Core.List.Memᴰ.{not-nil}
@@ -13,7 +14,7 @@ use Rattle.board.specs.Sheets.{Sheet, start, end, Starts, Seated}
 use Rattle.board.specs.Sound.{Before}
 use Rattle.board.specs.Stays.{of_two, picked, first_start, last_end}
 use Rattle.board.proofs.Entries.{in_own, of_own, length_low}
-use Rattle.board.proofs.Starts.{some_is, none_is, seat_starts, end_is, end_from}
+use Rattle.board.proofs.Starts.{some_is, seat_starts, end_is, end_from}
 
 -- what the pick of all is, for a pick of one of two that is in front of both
 module _ (pick : ℕ → ℕ → ℕ) (R : ℕ → ℕ → Type 0) (self : (a : ℕ) → R a a) (left : (a b c : ℕ) → R b c → R (pick a b) c) (right : (a b : ℕ) → R (pick a b) a) (f : Entry → Option ℕ) where
@@ -33,7 +34,7 @@ module _ (pick : ℕ → ℕ → ℕ) (R : ℕ → ℕ → Type 0) (self : (a : 
   ]
 
 picked_from : (pick : ℕ → ℕ → ℕ) → ((a b : ℕ) → (pick a b ≡ a) ⊎ (pick a b ≡ b)) → (f : Entry → Option ℕ) (es : List Entry) (m : ℕ) → picked pick f es ≡ Some m → (e : Entry) × Member e es × (f e ≡ Some m)
-picked_from pick one f [] m h = absurd (none_is m h)
+picked_from pick one f [] m h = absurd (none-some m h)
 picked_from pick one f (e ∷ es) m h = go (f e) (picked pick f es) refl refl h (picked_from pick one f es m)
   where
     go : (x y : Option ℕ) → f e ≡ x → picked pick f es ≡ y → of_two pick x y ≡ Some m → (picked pick f es ≡ Some m → (g : Entry) × Member g es × (f g ≡ Some m)) → (g : Entry) × Member g (e ∷ es) × (f g ≡ Some m)

@@ -23,7 +23,7 @@ Err e also next = Err e
 abbrev pub holds_in : Layer → Bool → ℕ → ℕ → Checked
 holds_in layer b number place = cond b (Ok tt) (Err (refusal number layer place))
 
--- and by the layer of records
+-- the same of the layer of records
 abbrev pub holds : Bool → ℕ → ℕ → Checked
 holds = holds_in Records
 
@@ -63,7 +63,7 @@ abbrev pub reported_by : {A F : Type 0} → (F → Refusal) → Result A F → R
 reported_by tells (Ok a) = Ok a
 reported_by tells (Err e) = Err (tells e)
 
--- with a fault of the words
+-- an answer with a fault of the words
 abbrev pub told : {A : Type 0} → Result A Fault → Result A Refusal
 told = reported_by shown
 

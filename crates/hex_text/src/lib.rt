@@ -68,7 +68,7 @@ impl Model for Token {
 }
 
 impl Token {
-    // It with one more byte.
+    // The token with one more byte.
     fn grown(self, byte: u8) -> State
         ensures { result ≡ grown self.0 self.1 self.2 byte }
     {
@@ -183,7 +183,7 @@ fn run(text: &[u8]) -> State
         .fold(State::Between, |state, (i, b)| state.after(i, *b))
 }
 
-// The words of a text. Pushing may fail, so a loop and no `fold`.
+// The words of a text. By a loop: a `try_fold` would hand state and words from step to step as a pair.
 fn shed(heap: Global, text: &[u8]) -> Result<Vec<u32>, AllocError>
     ensures { IfOk result (λ v. v.items ≡ shed 0 Between text.now) }
 {

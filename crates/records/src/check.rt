@@ -1,5 +1,5 @@
 // Whether a record may stand where it stands.
-ghost use Rattle.std.specs.Prelude.{◌≡◌, ◌+◌, ◌^◌, ◌<◌, ◌≤◌, length, sum};
+ghost use Rattle.std.specs.Prelude.{◌≡◌, ◌+◌, ◌/◌, ◌%◌, ◌^◌, ◌<◌, ◌≤◌, length, sum};
 ghost use Rattle.words.specs.Records.{machine, regions, task, channel, end};
 ghost use Rattle.board.specs.Files.{within, closing};
 ghost use Rattle.board.specs.Reading.{sizes_within, why};
@@ -28,7 +28,7 @@ fn sizes_within(place: usize, sizes: &[u32]) -> Result<(), Fault>
     Ok(())
 }
 
-// The sum of the region sizes.
+// The sum of the region sizes, by a loop over the lent words: a rule of the project.
 fn total(sizes: &[u32]) -> u64
     requires { length sizes.now ≤ 8 }
     ensures { result ≡ sum sizes.now }
@@ -40,8 +40,7 @@ fn total(sizes: &[u32]) -> u64
     total
 }
 
-// Each record has its own number of words, so each of these asks for its own bound; a type for a place of so many words
-// would be opened again at each fault.
+// These take the numbers of one kind of record each, so each asks that the places of just its words are numbers.
 pub(crate) fn machine(
     place: usize,
     cores: u32,
@@ -99,12 +98,19 @@ pub(crate) fn channel(
     if channels >= 256 {
         return Err(Fault::TooMany { place });
     }
-    let (from, to) = (pair / 64, pair % 64);
+    let (from, to) = ends_of(pair);
     if from < to && (to as usize) < tasks {
         Ok(())
     } else {
         Err(Fault::Pair { place: place + 1 })
     }
+}
+
+// The tasks that a channel's pair names: its producer, and its consumer.
+pub fn ends_of(pair: u32) -> (u32, u32)
+    ensures { result ≡ (pair / 64, pair % 64) }
+{
+    (pair / 64, pair % 64)
 }
 
 // Refuses an end that does not tell how many words stand before it, or that words follow; `left` counts the words from it on.

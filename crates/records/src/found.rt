@@ -6,7 +6,7 @@ ghost use Rattle.words.proofs.Props.{placed_prop};
 
 use words::Record;
 
-// What a record says whose first word stands at this place. Each of its words has a place, its sizes behind that.
+// A record and the place of its first word. Each of its words has a place, and its sizes stand right behind the first.
 #[derive(Clone, Copy)]
 pub struct Found<'a> {
     pub place: usize,

@@ -2,7 +2,7 @@
 use arrayvec::ArrayVec;
 use board::{Channel, Task};
 
-// The tables have room for any plan.
+// Like a plan, but in room of its own for any plan, and not yet known to be one.
 #[derive(Drop)]
 pub struct Gathered {
     pub cores: u32,

@@ -6,7 +6,7 @@ ghost use Rattle.records.specs.Gathering.{gathered};
 ghost use Rattle.records.specs.Shown.{shown};
 ghost use Rattle.std.proofs.Common.{rules};
 
-use crate::check::{channel, machine, regions, task};
+use crate::check::{channel, ends_of, machine, regions, task};
 use crate::fault::Fault;
 use crate::found::Found;
 use crate::gathered::Gathered;
@@ -67,10 +67,7 @@ impl FileRules for PlanRules {
             }
             Record::Regions { place: at, sizes } => {
                 regions(place, at, sizes, so_far.scratchpad)?;
-                let Ok(sizes) = ArrayVec::try_from(sizes) else {
-                    return Err(Fault::Range { place });
-                };
-                so_far.regions = sizes;
+                so_far.regions = ArrayVec::try_from(sizes).unwrap();
             }
             Record::Task { limit, local } => {
                 task(place, limit, local, so_far.tasks.len())?;
@@ -84,8 +81,12 @@ impl FileRules for PlanRules {
                     so_far.tasks.len(),
                     so_far.channels.len(),
                 )?;
-                let (from, to) = (pair as usize / 64, pair as usize % 64);
-                so_far.channels.push(Channel { from, to, bytes });
+                let (from, to) = ends_of(pair);
+                so_far.channels.push(Channel {
+                    from: from as usize,
+                    to: to as usize,
+                    bytes,
+                });
             }
             Record::Exec { .. } | Record::Transfer { .. } | Record::End { .. } => {}
         }

@@ -8,7 +8,7 @@ mod gathered;
 mod gathering;
 mod rules;
 
-pub use check::{closing, within};
+pub use check::{closing, ends_of, within};
 pub use fault::Fault;
 pub use found::Found;
 pub use gathered::Gathered;

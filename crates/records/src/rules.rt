@@ -36,7 +36,7 @@ pub trait FileRules {
     fn nothing(&self) -> Self::Gathered
         ensures { state result ≡ (rules self.now).none };
 
-    // One record more, or why it may not stand at this place.
+    // One record more, or why it may not stand at its place. After that what was gathered counts no more.
     fn add(&self, so_far: &mut Self::Gathered, found: Found<'_>) -> Result<(), Self::Fault>
         ensures { Adds (rules self.now) told (state so_far.old) found.entry.place (said found.entry.says) result (state so_far.new) };
 

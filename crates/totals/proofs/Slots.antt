@@ -14,7 +14,7 @@ use Rattle.board.specs.Sheets.{seat_of, start, end}
 use Rattle.board.specs.Stays.{exec_claim, bus_claim, exec_claims, bus_claims}
 use Rattle.board.proofs.Entries.{transfer_write, transfer_read}
 use Rattle.board.proofs.Fitting.{transfer_start}
-use Rattle.board.proofs.Starts.{none_is}
+use Rattle.std.proofs.lemmas.Option.{none-some}
 use Rattle.slots.specs.declared.slot.Slot.{Slot}
 use Rattle.slots.specs.Views.{places, lengths, cut_place, slot_claimed}
 use Rattle.table.specs.declared.model.Table.{Table}
@@ -81,7 +81,7 @@ module _ (t : Table) where
   seated_below i x e =
       elim (cases_lt i (length (plan_in t).tasks)) [
         | inl h ↦ h
-        | inr h ↦ absurd (none_is x (sym (get_or_past (sheet t).execs i None (omega (arith, (fits t).execs))) ∙ e))
+        | inr h ↦ absurd (none-some x (sym (get_or_past (sheet t).execs i None (omega (arith, (fits t).execs))) ∙ e))
       ]
 
   -- what is placed ends by the last cycle
@@ -89,7 +89,7 @@ module _ (t : Table) where
   end_small e z h = go (start (sheet t) e) refl h
     where
       go : (o : Option ℕ) → start (sheet t) e ≡ o → option_map (λ a. a + length_of (plan_in t) e) o ≡ Some z → z ≤ 536870911
-      go None q h = absurd (none_is z h)
+      go None q h = absurd (none-some z h)
       go (Some a) q h = let same : Some (a + length_of (plan_in t) e) ≡ Some z = h in let is : a + length_of (plan_in t) e ≡ z = cc in omega (arith, t.ends_fit e a q)
 
   pub exec_long : (i : ℕ) → i < length (vec_items t.slots.execs) → get_or (lengths (vec_items t.slots.execs)) i 0 ≡ length_of (plan_in t) (exec i)

@@ -8,6 +8,7 @@ use Rattle.words.specs.declared.fault.Layer.{Layer}
 use Rattle.words.specs.declared.fault.Layer.TheVariants as layer
 use Rattle.words.specs.declared.fault.Refusal.{Refusal}
 use Rattle.words.specs.declared.kind.Kind.{Kind}
+use Rattle.words.specs.declared.kind.NoKind.{NoKind}
 use Rattle.words.specs.declared.kind.Kind.TheVariants.{Machine, Regions, Task, Channel, Exec, Transfer, End}
 
 -- a layer by its name
@@ -26,6 +27,10 @@ kind_text Channel = codes "a channel"
 kind_text Exec = codes "an exec"
 kind_text Transfer = codes "a transfer"
 kind_text End = codes "an end"
+
+-- a number that no kind has
+abbrev pub no_kind_text : NoKind → List ℕ
+no_kind_text x = decimal x.0 ++ codes " is no kind"
 
 -- a refusal by its number, layer and place
 abbrev pub refusal_text : Refusal → List ℕ

@@ -24,7 +24,7 @@ impl From<AllocError> for BytesError {
     }
 }
 
-// Twice, since the two errors of std have no bound in common.
+// For callers that push. The two errors of std have no bound in common, so there are two of these.
 impl<T: Drop> From<AllocFailed<T>> for BytesError {
     ghost from_gives = { λ _ r. r ≡ NoMemory };
 

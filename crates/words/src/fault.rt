@@ -31,6 +31,7 @@ impl fmt::Display for Layer {
 // A refusal as it is told: its number, the layer that found it, and the place of the word that is to blame.
 #[derive(Clone, Copy, Debug, PartialEq, Eq)]
 pub struct Refusal {
+    // The number that a maker is told; the fault behind it is an enum.
     pub number: u32,
     pub layer: Layer,
     pub place: usize,

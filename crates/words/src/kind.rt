@@ -1,8 +1,9 @@
 // A word taken apart: its top three bits are its kind, the other 29 its number.
 ghost use Rattle.std.specs.Prelude.{◌≡◌, Some};
 ghost use Rattle.words.specs.Kinds.{Decodes, opening_of};
-ghost use Rattle.words.specs.Texts.{kind_text};
+ghost use Rattle.words.specs.Texts.{kind_text, no_kind_text};
 
+use std::error::Error;
 use std::fmt;
 
 // The kinds that open a record. A word of kind 0 is plain: it belongs to the record before it.
@@ -20,6 +21,16 @@ pub enum Kind {
 // A number that no kind has.
 #[derive(Clone, Copy, Debug, PartialEq, Eq)]
 pub struct NoKind(pub u32);
+
+impl fmt::Display for NoKind {
+    ghost output = { λ x. Some (no_kind_text x) };
+
+    fn fmt<W: fmt::Write>(&self, f: &mut fmt::Formatter<W>) -> fmt::Result {
+        write!(f, "{} is no kind", self.0)
+    }
+}
+
+impl Error for NoKind {}
 
 impl TryFrom<u32> for Kind {
     type Error = NoKind;

@@ -57,7 +57,7 @@ impl Opening {
 }
 
 // Where the first word stands that is not plain.
-fn not_plain(words: &[u32]) -> Option<usize>
+fn first_not_plain(words: &[u32]) -> Option<usize>
     ensures { result ≡ position (λ w. nat_le 536870912 w) words.now }
 {
     words.iter().position(|w| *w >= 0x2000_0000)
@@ -91,7 +91,7 @@ impl<'a> Reader<'a> {
                 place: self.place + self.rest.len(),
             });
         };
-        if let Some(i) = not_plain(fields) {
+        if let Some(i) = first_not_plain(fields) {
             return Err(Fault::Misplaced {
                 place: self.place + i,
             });
