@@ -4,8 +4,10 @@ use Rattle.board.specs.Timetables.{Loaded as LoadedView, loaded_of}
 use Rattle.placements.specs.declared.gathered.Placements.{Placements}
 use Rattle.placements.specs.declared.gathered.Loaded.{Loaded}
 
+-- the placements as a sheet
 abbrev pub sheet_in : Placements → Sheet
 sheet_in g = record { execs = g.execs.items; transfers = g.transfers.items }
 
+-- and with what may still come
 abbrev pub loaded : Loaded → LoadedView
 loaded l = loaded_of (sheet_in l.placements) l.next_task l.next_value

@@ -1,7 +1,7 @@
 // Whether a record may stand where it stands in a timetable.
 ghost use Rattle.std.specs.Prelude.{◌≡◌, ◌+◌, ◌^◌, ◌<◌, nat_le};
 ghost use Rattle.words.specs.Records.{exec, transfer};
-ghost use Rattle.board.specs.Timetables.{why};
+ghost use Rattle.board.specs.Timetables.{why, task_in, core_in, region_in};
 ghost use Rattle.plan.specs.Views.{view};
 ghost use Rattle.placements.specs.Shown.{reported};
 
@@ -16,7 +16,14 @@ pub fn in_time(start: u32, length: u32) -> bool
     u64::from(start) + u64::from(length) <= 536_870_911
 }
 
-// An exec and a transfer have two words each; a type for the place of two words would be opened again at each fault.
+// The task, the core and the region that a seat's one word names.
+pub(crate) fn parts_of(seat: u32) -> (usize, u32, u32)
+    ensures { result ≡ (task_in seat, core_in seat, region_in seat) }
+{
+    (seat as usize / 64, seat / 8 % 8, seat % 8)
+}
+
+// These two ask that the places of their two words are numbers. They differ in what they name and in what has to rise.
 pub(crate) fn exec(
     plan: &Plan,
     place: usize,
@@ -28,11 +35,11 @@ pub(crate) fn exec(
     ensures { reported result ≡ why (view plan.now) next_task 0 place (exec start seat) }
 {
     within(place + 1, seat as usize, 0, 4095)?;
-    let (task, core, region) = (seat as usize / 64, seat / 8 % 8, seat % 8);
+    let (task, core, region) = parts_of(seat);
     let Some(length) = plan.exec_length(task) else {
         return Err(Fault::Unknown { place: place + 1 });
     };
-    if core >= plan.cores() || region as usize >= plan.regions().len() {
+    if !plan.has_region(core, region) {
         return Err(Fault::Unknown { place: place + 1 });
     }
     if task < next_task {

@@ -68,6 +68,7 @@ impl From<records::Fault> for Fault {
     }
 }
 
+// For callers that take words themselves.
 impl From<words::Fault> for Fault {
     ghost from_gives = { λ e r. r ≡ Records (Words e) };
 

@@ -1,12 +1,12 @@
 // Gathers the placements of a timetable from its file, with no memory but its own.
-ghost use Rattle.std.specs.Prelude.{◌≡◌, Ok, Err, refl, MatchResult};
+ghost use Rattle.std.specs.Prelude.{◌≡◌, ◌≤◌, replicate, None as nothing, Ok, Err, refl, MatchResult};
 ghost use Rattle.board.specs.Timetables.{Loaded as LoadedView, timetable_rules, read_sheet};
 ghost use Rattle.plan.specs.Views.{view};
 ghost use Rattle.placements.specs.Gathering.{sheet_in, loaded};
 ghost use Rattle.placements.specs.Shown.{shown};
 ghost use Rattle.std.proofs.Common.{rules};
 
-use crate::check::{exec, transfer};
+use crate::check::{exec, parts_of, transfer};
 use crate::fault::Fault;
 use crate::gathered::{Loaded, Placements};
 use arrayvec::ArrayVec;
@@ -14,6 +14,16 @@ use board::Seat;
 use plan::Plan;
 use records::{FileRules, Found, read};
 use words::{Kind, Record};
+
+// So many places of entries, all empty.
+fn empty<P: Copy, const ROOM: usize>(count: usize) -> ArrayVec<Option<P>, ROOM>
+    requires { count ≤ ROOM }
+    ensures { result.items ≡ replicate count nothing }
+{
+    let mut places = ArrayVec::from([None; ROOM]);
+    places.truncate(count);
+    places
+}
 
 // The rules of the timetable files of a plan.
 #[derive(Clone, Copy)]
@@ -41,12 +51,11 @@ impl FileRules for TimetableRules<'_> {
     }
 
     fn nothing(&self) -> Loaded {
-        let mut execs = ArrayVec::from([None; 64]);
-        execs.truncate(self.plan.tasks().len());
-        let mut transfers = ArrayVec::from([None; 512]);
-        transfers.truncate(2 * self.plan.channels().len());
         Loaded {
-            placements: Placements { execs, transfers },
+            placements: Placements {
+                execs: empty(self.plan.tasks().len()),
+                transfers: empty(2 * self.plan.channels().len()),
+            },
             next_task: 0,
             next_value: 0,
         }
@@ -56,7 +65,8 @@ impl FileRules for TimetableRules<'_> {
         match found.says {
             Record::Exec { start, seat } => {
                 exec(self.plan, found.place, start, seat, so_far.next_task)?;
-                let (task, core, region) = (seat as usize / 64, seat / 8 % 8, seat % 8);
+                let (task, core, region) = parts_of(seat);
+                // A record that may stand names an entry of the plan, so its place is there; likewise below.
                 if let Some(cell) = so_far.placements.execs.get_mut(task) {
                     *cell = Some(Seat {
                         start,

@@ -9,6 +9,7 @@ use std::error::Error;
 use std::fmt;
 use words::Refusal;
 
+// Want of memory, or the fault for which a file is refused. Like the error of bytes, whose one fault is named by what it is.
 #[derive(Clone, Copy, Debug, PartialEq, Eq)]
 pub enum ReadError {
     NoMemory,

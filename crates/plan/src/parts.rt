@@ -1,5 +1,5 @@
 // What a plan says.
-ghost use Rattle.std.specs.Prelude.{◌≡◌};
+ghost use Rattle.std.specs.Prelude.{◌≡◌, ◌&&◌, length, nat_lt};
 ghost use Rattle.plan.specs.Views.{view};
 
 use crate::model::Plan;
@@ -28,6 +28,13 @@ impl Plan {
         ensures { result ≡ (view self.now).scratchpad }
     {
         self.scratchpad
+    }
+
+    // Whether the board has this core and this region on it.
+    pub fn has_region(&self, core: u32, region: u32) -> bool
+        ensures { result ≡ (nat_lt core (view self.now).cores && nat_lt region (length (view self.now).regions)) }
+    {
+        core < self.cores && (region as usize) < self.regions.len()
     }
 
     // The sizes of the regions, alike on every core.

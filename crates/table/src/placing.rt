@@ -50,7 +50,7 @@ impl Table<'_> {
     {
         match entry {
             Entry::Exec { task, core, region } => {
-                if core >= self.plan.cores() || region as usize >= self.plan.regions().len() {
+                if !self.plan.has_region(core, region) {
                     return None;
                 }
                 self.plan.exec_length(task)
