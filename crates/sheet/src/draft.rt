@@ -52,9 +52,6 @@ impl<'p> Sheet<'p, Open> {
     pub fn close(self) -> Closed<'p>
         ensures { result.table ≡ self.entry.table }
     {
-        Sheet {
-            table: self.table,
-            state: PhantomData,
-        }
+        self.moved()
     }
 }

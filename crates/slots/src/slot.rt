@@ -2,7 +2,7 @@
 ghost use Rattle.std.specs.Prelude.{◌≡◌, length, slice_set};
 ghost use Rattle.std.specs.List.{refill};
 ghost use Rattle.board.specs.Sheets.{with_exec, with_transfer};
-ghost use Rattle.slots.specs.Views.{places, lengths, sheet_of, exec_lengths, transfer_lengths};
+ghost use Rattle.slots.specs.Views.{places, lengths, sheet_of, KeepsLengths};
 
 use board::Seat;
 
@@ -19,20 +19,19 @@ pub type ExecSlot = Slot<Seat>;
 // A transfer is placed by its start.
 pub type TransferSlot = Slot<u32>;
 
-// The slots of execs by task, those of transfers by 2 times the channel, plus 1 for the read.
+// The slots of execs by task, those of transfers by 2 times the channel, plus 1 for the read, as a file numbers them.
 #[derive(Drop)]
 pub struct Slots {
     pub execs: Vec<ExecSlot>,
     pub transfers: Vec<TransferSlot>,
 }
 
-// Slots have no invariant of their own, so each method says that the lengths stay.
+// Slots have no invariant of their own: a rule of the project. So each method says that the lengths stay.
 impl Slots {
     // Seats one exec, or empties its slot. There is nothing to do past the last task.
     pub fn set_exec(&mut self, task: usize, seat: Option<Seat>)
         ensures sheet { sheet_of self.new ≡ with_exec (sheet_of self.old) task seat }
-        ensures execs { exec_lengths self.new ≡ exec_lengths self.old }
-        ensures transfers { transfer_lengths self.new ≡ transfer_lengths self.old }
+        ensures lengths { KeepsLengths self.old self.new }
     {
         set(&mut self.execs, task, seat);
     }
@@ -40,8 +39,7 @@ impl Slots {
     // Starts one transfer, or empties its slot. There is nothing to do past the last value.
     pub fn set_transfer(&mut self, value: usize, start: Option<u32>)
         ensures sheet { sheet_of self.new ≡ with_transfer (sheet_of self.old) value start }
-        ensures execs { exec_lengths self.new ≡ exec_lengths self.old }
-        ensures transfers { transfer_lengths self.new ≡ transfer_lengths self.old }
+        ensures lengths { KeepsLengths self.old self.new }
     {
         set(&mut self.transfers, value, start);
     }
@@ -51,8 +49,7 @@ impl Slots {
     pub fn fill(&mut self, seats: &[Option<Seat>], starts: &[Option<u32>])
         ensures execs { (sheet_of self.new).execs ≡ refill (length (sheet_of self.old).execs) (sheet_of self.old).execs seats.now }
         ensures transfers { (sheet_of self.new).transfers ≡ refill (length (sheet_of self.old).transfers) (sheet_of self.old).transfers starts.now }
-        ensures exec_lengths { exec_lengths self.new ≡ exec_lengths self.old }
-        ensures transfer_lengths { transfer_lengths self.new ≡ transfer_lengths self.old }
+        ensures lengths { KeepsLengths self.old self.new }
     {
         fill(&mut self.execs, seats);
         fill(&mut self.transfers, starts);
@@ -65,7 +62,7 @@ fn set<P: Copy>(slots: &mut Vec<Slot<P>>, index: usize, place: Option<P>)
     ensures lengths { lengths slots.new.items ≡ lengths slots.old.items }
 {
     if let Some(slot) = slots.get_mut(index) {
-        slot.place = place;
+        *slot = Slot { place, ..*slot };
     }
 }
 
@@ -74,6 +71,7 @@ fn fill<P: Copy>(slots: &mut Vec<Slot<P>>, given: &[Option<P>])
     ensures places { places slots.new.items ≡ refill (length (places slots.old.items)) (places slots.old.items) given.now }
     ensures lengths { lengths slots.new.items ≡ lengths slots.old.items }
 {
+    // By number, since nothing is known of what is written through the items of an `iter_mut`.
     for (index, place) in given.iter().enumerate() {
         set(slots, index, *place);
     }

@@ -1,18 +1,15 @@
 -- A table's sheet fits its plan, and so do slots that are filled from a timetable.
-use Rattle.std.proofs.Common.{◌≡◌, ℕ, ◌*◌, List, ◌++◌, map, length, take, drop, Some, None, vec_items, sym, refl, ap, ◌∙◌, ap₂}
+use Rattle.std.proofs.Common.{◌≡◌, ◌*◌, List, ◌++◌, map, length, take, drop, vec_items, sym, ap, ◌∙◌, ap₂}
 use Rattle.std.specs.List.{range_with_len, refill}
 use Rattle.std.proofs.Math.Seq.{take-append_seam}
 use Rattle.std.proofs.lemmas.List.FromFn.{length-map-range_with_len}
 use Rattle.std.proofs.lemmas.List.{length-map}
 use Rattle.board.specs.Entries.{transfer, length_of}
 use Rattle.board.specs.Plans.{PlanView}
-use Rattle.board.specs.declared.Entry.{Entry}
-use Rattle.board.specs.declared.Entry.TheVariants.{Exec, Write, Read}
-use Rattle.board.specs.Placing.{put, cleared}
 use Rattle.board.specs.Sheets.{Sheet, Fits}
 use Rattle.table.specs.declared.model.Table.{Table}
 use Rattle.slots.specs.declared.slot.Slots.{Slots}
-use Rattle.table.specs.Tables.{plan_in, sheet, with_entry}
+use Rattle.table.specs.Tables.{plan_in, sheet}
 use Rattle.slots.specs.Views.{sheet_of, exec_lengths, transfer_lengths}
 
 -- slots of these lengths are as many as the plan's entries
@@ -40,14 +37,3 @@ filled t x s f a b =
     ap₂ (λ es ts. record { execs = es; transfers = ts })
     (a ∙ refilled (sheet t).execs s.execs (f.execs ∙ sym w.execs))
     (b ∙ refilled (sheet t).transfers s.transfers (f.transfers ∙ sym w.transfers))
-
--- an entry that is placed, and one that is withdrawn
-pub with_some : (s : Sheet) (n : Entry) (a : ℕ) → with_entry s n (Some a) ≡ put s n a
-with_some s (Exec t core region) a = refl
-with_some s (Write c) a = refl
-with_some s (Read c) a = refl
-
-pub with_none : (s : Sheet) (n : Entry) → with_entry s n None ≡ cleared s n
-with_none s (Exec t core region) = refl
-with_none s (Write c) = refl
-with_none s (Read c) = refl

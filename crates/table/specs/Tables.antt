@@ -1,13 +1,12 @@
 -- What a table stands for: a plan and a sheet of it.
 use Rattle.std.specs.Prelude.{◌≡◌, ℕ, ◌+◌, ◌*◌, cond, Some, None, Option, Result}
-use Rattle.std.specs.Option.{option_map}
 use Rattle.board.specs.declared.Entry.{Entry}
 use Rattle.board.specs.declared.Entry.TheVariants.{Exec, Write, Read}
 use Rattle.board.specs.Entries.{length_of}
 use Rattle.board.specs.Files.{Checked}
-use Rattle.board.specs.Placing.{entry_of, known}
+use Rattle.board.specs.Placing.{entry_of, known, put, cleared}
 use Rattle.board.specs.Plans.{PlanView}
-use Rattle.board.specs.Sheets.{Sheet, with_exec, with_transfer}
+use Rattle.board.specs.Sheets.{Sheet}
 use Rattle.placements.specs.declared.fault.Fault.{Fault}
 use Rattle.placements.specs.Shown.{reported}
 use Rattle.plan.specs.Views.{view}
@@ -37,6 +36,5 @@ number_of (Read c) = 2 * c + 1
 
 -- the sheet with the entry placed from a cycle on, or without it
 abbrev pub with_entry : Sheet → Entry → Option ℕ → Sheet
-with_entry s (Exec t core region) o = with_exec s t (option_map (λ a. record { start = a; core = core; region = region }) o)
-with_entry s (Write c) o = with_transfer s (2 * c) o
-with_entry s (Read c) o = with_transfer s (2 * c + 1) o
+with_entry s n (Some a) = put s n a
+with_entry s n None = cleared s n

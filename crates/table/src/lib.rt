@@ -1,7 +1,7 @@
 // The table of a sheet: the slots of a plan, and the calls that place, withdraw and load.
 #![tactic(auto)]
 
-mod filling;
+mod loading;
 mod model;
 mod opening;
 mod parts;

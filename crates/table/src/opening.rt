@@ -28,7 +28,7 @@ fn exec_slots(heap: Global, plan: &Plan) -> Result<Vec<ExecSlot>, AllocError>
 }
 
 // An empty slot for the write and the read of each channel.
-// Apart from the execs: two slots a channel, and their length is worked out, so one function of both were no plainer.
+// Apart from the execs: two slots a channel, and their length is worked out, so one function of both would be no plainer.
 fn transfer_slots(heap: Global, plan: &Plan) -> Result<Vec<TransferSlot>, AllocError>
     ensures lengths { IfOk result (λ v. lengths v.items ≡ map (λ v. length_of (view plan.now) (transfer v)) (range_with_len 0 (2 * length (view plan.now).channels))) }
     ensures places { IfOk result (λ v. places v.items ≡ replicate (2 * length (view plan.now).channels) nothing) }

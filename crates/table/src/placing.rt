@@ -3,7 +3,7 @@ ghost use Rattle.std.specs.Prelude.{◌≡◌, ◌-◌, ◌^◌, min, is_some};
 ghost use Rattle.board.specs.Placing.{entry_of, may_place, may_withdraw, placing, withdrawing};
 ghost use Rattle.board.specs.Sheets.{start};
 ghost use Rattle.placements.specs.Shown.{reported};
-ghost use Rattle.slots.specs.Views.{sheet_of, exec_lengths, transfer_lengths};
+ghost use Rattle.slots.specs.Views.{sheet_of, KeepsLengths};
 ghost use Rattle.table.specs.Tables.{plan_in, sheet, length_if_known, number_of, with_entry, Leaves};
 
 use crate::model::Table;
@@ -26,8 +26,7 @@ fn number(entry: Entry) -> usize
 // Places the entry, or empties its slot.
 fn set(slots: &mut Slots, entry: Entry, start: Option<u32>)
     ensures sheet { sheet_of slots.new ≡ with_entry (sheet_of slots.old) entry start }
-    ensures execs { exec_lengths slots.new ≡ exec_lengths slots.old }
-    ensures transfers { transfer_lengths slots.new ≡ transfer_lengths slots.old }
+    ensures lengths { KeepsLengths slots.old slots.new }
 {
     let number = number(entry);
     match entry {

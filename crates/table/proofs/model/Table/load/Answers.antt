@@ -16,8 +16,8 @@ invariant_of-self c =
     let f = loaded_fits (plan_in t) c.args.words.now s c.in_ok-found.ensures in
     let g = subst (Fits (plan_in t)) (sym (filled t c.fill.new.self s f (rw (← c.as_slice.ensures.value) c.fill.ensures.execs) (rw (← c.as_slice-2.ensures.value) c.fill.ensures.transfers))) f in
     record {
-      exec_lengths = c.fill.ensures.exec_lengths ∙ t.exec_lengths;
-      transfer_lengths = c.fill.ensures.transfer_lengths ∙ t.transfer_lengths;
+      exec_lengths = c.fill.ensures.lengths.execs ∙ t.exec_lengths;
+      transfer_lengths = c.fill.ensures.lengths.transfers ∙ t.transfer_lengths;
       seats_fit = g.seats;
       ends_fit = g.ends;
     }

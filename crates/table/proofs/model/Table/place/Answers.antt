@@ -7,7 +7,7 @@ use Rattle.board.specs.Sheets.{Fits}
 use Rattle.board.proofs.Fitting.{put_fits}
 use Rattle.table.specs.declared.model.Table.{Table}
 use Rattle.table.specs.Tables.{plan_in, sheet}
-use Rattle.table.proofs.Standing.{fits, with_some}
+use Rattle.table.proofs.Standing.{fits}
 use Rattle.table.proofs.model.Table.place.Goals as goal
 
 -- what may be placed still fits when it is
@@ -20,10 +20,10 @@ placed_fits t n a h =
 pub invariant_of-self : goal.invariant_of-self
 invariant_of-self c =
     let t = c.args.self.now in
-    let f = subst (Fits (plan_in t)) (sym (c.set.ensures.sheet ∙ with_some (sheet t) c.args.entry c.args.start)) (placed_fits t c.args.entry c.args.start c.in_ok-may_place.ensures) in
+    let f = subst (Fits (plan_in t)) (sym c.set.ensures.sheet) (placed_fits t c.args.entry c.args.start c.in_ok-may_place.ensures) in
     record {
-      exec_lengths = c.set.ensures.execs ∙ t.exec_lengths;
-      transfer_lengths = c.set.ensures.transfers ∙ t.transfer_lengths;
+      exec_lengths = c.set.ensures.lengths.execs ∙ t.exec_lengths;
+      transfer_lengths = c.set.ensures.lengths.transfers ∙ t.transfer_lengths;
       seats_fit = f.seats;
       ends_fit = f.ends;
     }
