@@ -14,13 +14,16 @@ struct Counts {
 
 type Verdict = Result<Counts, Refusal>;
 
-fn answer(heap: Global, words: &[u32]) -> Result<Verdict, AllocError> {
+fn answer(heap: Global, words: &[u32]) -> Result<Verdict, Fail> {
     match Plan::read(heap, words) {
         Ok(plan) => Ok(Ok(Counts {
             tasks: plan.tasks().len(),
             channels: plan.channels().len(),
         })),
-        Err(error) => Ok(Err(error.refusal().ok_or(AllocError)?)),
+        Err(error) => {
+            let refusal = error.refusal().ok_or(Fail::new("out of memory"))?;
+            Ok(Err(refusal))
+        }
     }
 }
 
@@ -62,7 +65,7 @@ impl Case {
         Case { kept, ..self }
     }
 
-    fn answer(&self, heap: Global) -> Result<Verdict, AllocError> {
+    fn answer(&self, heap: Global) -> Result<Verdict, Fail> {
         let mut words = Vec::from_slice(heap, two_task())?;
         for (place, word) in self.changes {
             if let Some(old) = words.get_mut(*place) {
@@ -96,14 +99,14 @@ fn ended(mut words: Vec<u32>) -> Result<Vec<u32>, AllocError> {
     Ok(words)
 }
 
-fn with_regions(heap: Global, told: u32, sizes: &[u32]) -> Result<Verdict, AllocError> {
+fn with_regions(heap: Global, told: u32, sizes: &[u32]) -> Result<Verdict, Fail> {
     let mut words = begun(heap, told, sizes)?;
     repeat(&mut words, [0x6000_000A, 20], 1)?;
     answer(heap, &ended(words)?)
 }
 
 // A plan of so many tasks and of so many channels between the first two.
-fn with_counts(heap: Global, tasks: usize, channels: usize) -> Result<Verdict, AllocError> {
+fn with_counts(heap: Global, tasks: usize, channels: usize) -> Result<Verdict, Fail> {
     let mut words = begun(heap, 1, &[100])?;
     repeat(&mut words, [0x6000_0001, 0], tasks)?;
     repeat(&mut words, [0x8000_0001, 1], channels)?;

@@ -7,7 +7,7 @@ use plan::{Channel, Plan, ReadError, Task};
 use std::alloc::{AllocError, Global};
 use words::Refusal;
 
-// All numbers of a plan.
+// All numbers of a plan, but not in its ranges by their type, so that the second reader can make them.
 #[derive(Debug, PartialEq, Eq, Drop)]
 pub struct Numbers {
     pub cores: u32,
@@ -19,6 +19,7 @@ pub struct Numbers {
     pub channels: Vec<Channel>,
 }
 
+// What a reader answers, want of memory apart.
 pub type Outcome = Result<Numbers, Refusal>;
 
 impl Numbers {

@@ -9,7 +9,8 @@ use plan::{Channel, Task};
 use std::alloc::{AllocError, Global};
 use std::ops::RangeInclusive;
 
-// The parts of a plan file, by the kinds of the words that open them.
+// The parts of a plan file, by the kinds of the words that open them. They are not `words::Kind`, since the second reader
+// shares nothing with the first.
 #[derive(Clone, Copy, PartialEq, Eq)]
 enum Part {
     Machine = 1,

@@ -5,7 +5,8 @@ use std::alloc::{AllocError, Global};
 use std::collections::BTreeMap;
 use std::fmt;
 
-// The files of one damage: those that were read, and those that were refused with 1, 2 and so on to 7.
+// The files of one damage: those that were read, and those that were refused, in the order of the numbers of plan files,
+// which are 1 to 7.
 #[derive(Clone, Copy, Default, Drop)]
 struct Row {
     read: u32,
@@ -48,6 +49,7 @@ impl fmt::Display for Row {
     }
 }
 
+// What became of all files, and on how many the readers differ.
 #[derive(Drop)]
 pub struct Tally {
     rows: BTreeMap<Damage, Row>,

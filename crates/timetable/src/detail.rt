@@ -1,9 +1,10 @@
 // What the words of a file show of a fault.
 use crate::walk::Spot;
-use records::Fault;
+use records::{Fault, ends_of};
 use std::fmt;
 use words::{Kind, Opening, Record};
 
+// What explains a fault behind its meaning.
 #[derive(Clone, Copy)]
 pub enum Detail {
     // A word of one of these kinds is due, or a plain one where there is no kind. The word that is there, if any.
@@ -41,10 +42,10 @@ impl Detail {
                 Some(Detail::Rule("a plan has at most 64 tasks"))
             }
             (Fault::TooMany { .. }, _) => Some(Detail::Rule("a plan has at most 256 channels")),
-            (Fault::Pair { .. }, Record::Channel { pair, .. }) => Some(Detail::Pair {
-                from: pair / 64,
-                to: pair % 64,
-            }),
+            (Fault::Pair { .. }, Record::Channel { pair, .. }) => {
+                let (from, to) = ends_of(pair);
+                Some(Detail::Pair { from, to })
+            }
             (Fault::End { .. }, Record::End { count }) => Some(Detail::Count {
                 told: count,
                 before: place,

@@ -19,7 +19,7 @@ impl From<io::Error> for Failed {
     }
 }
 
-// What became of a file.
+// What became of a file. Only a refused one changes the status.
 #[derive(Clone, Copy, PartialEq, Eq)]
 enum Outcome {
     Accepted,
@@ -47,7 +47,7 @@ pub(crate) fn tell_plans(rt: &HostRuntime, files: &[String]) -> Result<(), Faile
             out: &mut out,
             name: file.as_str(),
         };
-        if report.file()? == Outcome::Refused {
+        if report.tell()? == Outcome::Refused {
             answer = Err(Failed);
         }
     }
@@ -64,14 +64,15 @@ struct Report<'a, W> {
 }
 
 impl<W: Write> Report<'_, W> {
-    fn file(&mut self) -> io::Result<Outcome> {
+    fn tell(&mut self) -> io::Result<Outcome> {
         match load(self.rt, self.name) {
-            Ok(words) => self.words(&words),
-            Err(error) => self.unloaded(error),
+            Ok(words) => self.tell_words(&words),
+            Err(error) => self.tell_unloaded(error),
         }
     }
 
-    fn unloaded(&mut self, error: LoadError) -> io::Result<Outcome> {
+    // No words were got from the file.
+    fn tell_unloaded(&mut self, error: LoadError) -> io::Result<Outcome> {
         let name = self.name;
         match error {
             LoadError::Cut { bytes, fault } => {
@@ -97,17 +98,17 @@ impl<W: Write> Report<'_, W> {
         }
     }
 
-    fn words(&mut self, words: &[u32]) -> io::Result<Outcome> {
+    fn tell_words(&mut self, words: &[u32]) -> io::Result<Outcome> {
         let (name, count) = (self.name, words.len());
         writeln!(self.out, "{name}: {count} words")?;
         match Plan::read(self.rt.alloc(), words) {
-            Ok(plan) => self.plan(words, &plan),
-            Err(ReadError::Refused(fault)) => self.refusal(words, fault),
-            Err(ReadError::NoMemory) => self.unloaded(LoadError::NoMemory),
+            Ok(plan) => self.tell_plan(words, &plan),
+            Err(ReadError::Refused(fault)) => self.tell_refusal(words, fault),
+            Err(ReadError::NoMemory) => self.tell_unloaded(LoadError::NoMemory),
         }
     }
 
-    fn plan(&mut self, words: &[u32], plan: &Plan) -> io::Result<Outcome> {
+    fn tell_plan(&mut self, words: &[u32], plan: &Plan) -> io::Result<Outcome> {
         let steps = Steps {
             words,
             last: words.len(),
@@ -122,7 +123,7 @@ impl<W: Write> Report<'_, W> {
         Ok(Outcome::Accepted)
     }
 
-    fn refusal(&mut self, words: &[u32], fault: Fault) -> io::Result<Outcome> {
+    fn tell_refusal(&mut self, words: &[u32], fault: Fault) -> io::Result<Outcome> {
         let steps = Steps {
             words,
             last: fault.refusal().place,

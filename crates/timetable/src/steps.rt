@@ -1,5 +1,6 @@
 // Shows the records of a file one by one.
 use crate::walk::{Step, Walk};
+use records::ends_of;
 use std::fmt;
 use words::Record;
 
@@ -36,7 +37,7 @@ impl fmt::Display for Step<'_> {
             Record::Regions { sizes, .. } => write!(f, "regions  {}", Sizes(sizes)),
             Record::Task { limit, local } => write!(f, "task      limit {limit}, local {local}"),
             Record::Channel { bytes, pair } => {
-                let (from, to) = (pair / 64, pair % 64);
+                let (from, to) = ends_of(pair);
                 write!(f, "channel   bytes {bytes}, from {from} to {to}")
             }
             Record::Exec { start, seat } => write!(f, "exec      start {start}, seat {seat}"),

@@ -60,7 +60,8 @@ impl<'a> Iterator for Walk<'a> {
 pub enum Spot<'a> {
     // A word of this record, so far behind its first.
     Within { record: Record<'a>, offset: usize },
-    // No word that belongs to a record. One of these kinds is due, or a plain word where there is none.
+    // No word that belongs to a record. One of these kinds is due; a plain word is due where the slice, as `Kind` has no
+    // such case, is empty.
     Open(&'static [Kind]),
 }
 
