@@ -1,6 +1,6 @@
 // Loads the words of a file.
 ghost use Rattle.std.specs.Prelude.{◌≡◌};
-ghost use Rattle.timetable.specs.Loads.{Text, FromText, FromRaw, of_text};
+ghost use Rattle.timetable.specs.Loads.{Text, FromText, FromRaw, of_text, load_text};
 
 use hex_text::{HexError, from_hex};
 use std::alloc::Global;
@@ -39,6 +39,8 @@ impl From<HexError> for LoadError {
 }
 
 impl fmt::Display for LoadError {
+    ghost output = { load_text };
+
     fn fmt<W: fmt::Write>(&self, f: &mut fmt::Formatter<W>) -> fmt::Result {
         match self {
             LoadError::NoMemory => f.write_str("not read: out of memory"),
