@@ -11,7 +11,7 @@ pub(crate) struct Window {
     ghost open: { from < end },
 }
 
-// Before its end, some claim has each cycle, or no claim has any.
+// Up to an end: each cycle is some claim's, or none is.
 #[derive(Clone, Copy)]
 pub(crate) enum Stretch {
     Taken(u32),

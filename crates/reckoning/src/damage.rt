@@ -5,7 +5,7 @@ ghost use Rattle.std.specs.List.{insert, remove};
 use std::alloc::{AllocError, Global};
 use std::fmt;
 
-// In the order in which they are told.
+// The ways in which a file is damaged, in the order in which they are told.
 #[derive(Clone, Copy, PartialEq, Eq, PartialOrd, Ord)]
 pub enum Damage {
     Unharmed,

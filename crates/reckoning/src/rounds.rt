@@ -10,7 +10,7 @@ use std::alloc::AllocError;
 use std::iter;
 use words::Kind;
 
-// The places of a file that are damaged: from one place on, each so many words.
+// The places of a file that are damaged: every `stride`-th from `from` on.
 #[derive(Clone, Copy)]
 struct Places {
     from: usize,
