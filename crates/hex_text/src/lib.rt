@@ -167,7 +167,7 @@ fn digit(byte: u8) -> Option<u32>
     char::from(byte).to_digit(16)
 }
 
-// No `is_ascii_whitespace`, which takes the form feed too.
+// Whether the byte stands between words. No `is_ascii_whitespace`, which takes the form feed too.
 fn blank(byte: u8) -> bool
     ensures { result ≡ blank byte }
 {
