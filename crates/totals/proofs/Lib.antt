@@ -3,4 +3,5 @@ mod Slots
 mod Waiting
 mod Claiming
 mod Reaches
+mod Sides
 mod Staying

@@ -1,5 +1,6 @@
 -- The first start and the last end of a task's own entries, channel by channel.
 use Rattle.std.proofs.Common.{◌≡◌, ℕ, ◌+◌, ◌-◌, ◌<◌, ◌≤◌, min, max, Bool, true, false, cond, eqb, List, [], ◌∷◌, ◌++◌, map, length, Some, None, filter, Option, sym, refl, ap, ◌∙◌, ap₂, arith}
+use Rattle.std.proofs.Math.Nat.{min_comm, max_comm}
 use Rattle.std.specs.List.{range_with_len}
 use Rattle.board.specs.Entries.{Entry, exec, write, read, producer, consumer, own, inputs, outputs}
 use Rattle.board.specs.Plans.{PlanView}
@@ -71,9 +72,9 @@ module _ (pick : ℕ → ℕ → ℕ) (pick_assoc : (a b c : ℕ) → pick (pick
       left_none o i h = ap (of_two pick o) (ap (among pick f p t) (rest_none (length p.channels) i h)) ∙ two_none o
 
       -- one channel further: first its read, then its write
-      step : (a b c i : ℕ) (x y : Option ℕ) (m : Option ℕ) → i < length p.channels → Some b ≡ of_two pick (Some a) x → x ≡ cond (into p t i) (f (read i)) None → Some c ≡ of_two pick (Some b) y → y ≡ cond (out p t i) (f (write i)) None → of_two pick (Some a) (left pick f p t i) ≡ m → of_two pick (Some c) (left pick f p t (i + 1)) ≡ m
-      step a b c i x y m h eb ex ec ey inv =
-          ap (λ o. of_two pick o (left pick f p t (i + 1))) (ec ∙ ap₂ (of_two pick) (eb ∙ ap (of_two pick (Some a)) ex) ey)
+      step : (a b c i : ℕ) (m : Option ℕ) → i < length p.channels → Some b ≡ of_two pick (Some a) (cond (into p t i) (f (read i)) None) → Some c ≡ of_two pick (Some b) (cond (out p t i) (f (write i)) None) → of_two pick (Some a) (left pick f p t i) ≡ m → of_two pick (Some c) (left pick f p t (i + 1)) ≡ m
+      step a b c i m h eb ec inv =
+          ap (λ o. of_two pick o (left pick f p t (i + 1))) (ec ∙ ap (λ o. of_two pick o (cond (out p t i) (f (write i)) None)) eb)
           ∙ left_more (Some a) i h
           ∙ inv
 
@@ -82,31 +83,30 @@ pub record Reaching (p : PlanView) (s : Sheet) (t i first last : ℕ) : Type 0 w
   pub starts : of_two min (Some first) (left min (start s) p t i) ≡ first_start p s t
   pub ends : of_two max (Some last) (left max (end p s) p t i) ≡ last_end p s t
 
+-- from `first` to `last`, and with an entry more from `first2` to `last2`, if it is the task's own
+pub record Grown (p : PlanView) (s : Sheet) (b : Bool) (e : Entry) (first last first2 last2 : ℕ) : Type 0 where
+  pub starts : Some first2 ≡ of_two min (Some first) (cond b (start s e) None)
+  pub ends : Some last2 ≡ of_two max (Some last) (cond b (end p s e) None)
+
 min_assoc : (a b c : ℕ) → min (min a b) c ≡ min a (min b c)
 min_assoc a b c = omega arith
-
-min_swap : (a b : ℕ) → min a b ≡ min b a
-min_swap a b = omega arith
 
 max_assoc : (a b c : ℕ) → max (max a b) c ≡ max a (max b c)
 max_assoc a b c = omega arith
 
-max_swap : (a b : ℕ) → max a b ≡ max b a
-max_swap a b = omega arith
-
 module _ (p : PlanView) (s : Sheet) (t : ℕ) where
   pub reaching_first : (a z : ℕ) → Some a ≡ start s (exec t) → Some z ≡ end p s (exec t) → Reaching p s t 0 a z
   reaching_first a z ea ez = record {
-    starts = ap (λ o. of_two min o (left min (start s) p t 0)) ea ∙ left_first min min_assoc min_swap (start s) p t;
-    ends = ap (λ o. of_two max o (left max (end p s) p t 0)) ez ∙ left_first max max_assoc max_swap (end p s) p t;
+    starts = ap (λ o. of_two min o (left min (start s) p t 0)) ea ∙ left_first min min_assoc min_comm (start s) p t;
+    ends = ap (λ o. of_two max o (left max (end p s) p t 0)) ez ∙ left_first max max_assoc max_comm (end p s) p t;
   }
 
-  pub reaching_more : (i a b c x y z : ℕ) (o q u w : Option ℕ) → i < length p.channels → Reaching p s t i a x → Some b ≡ of_two min (Some a) o → o ≡ cond (into p t i) (start s (read i)) None → Some c ≡ of_two min (Some b) q → q ≡ cond (out p t i) (start s (write i)) None → Some y ≡ of_two max (Some x) u → u ≡ cond (into p t i) (end p s (read i)) None → Some z ≡ of_two max (Some y) w → w ≡ cond (out p t i) (end p s (write i)) None → Reaching p s t (i + 1) c z
-  reaching_more i a b c x y z o q u w h r eb eo ec eq ey eu ez ew = record {
-    starts = step min min_assoc min_swap (start s) p t a b c i o q (first_start p s t) h eb eo ec eq r.starts;
-    ends = step max max_assoc max_swap (end p s) p t x y z i u w (last_end p s t) h ey eu ez ew r.ends;
-  }
+  pub reaching_more : (i j a b c x y z : ℕ) → i < length p.channels → j ≡ i + 1 → Reaching p s t i a x → Grown p s (into p t i) (read i) a x b y → Grown p s (out p t i) (write i) b y c z → Reaching p s t j c z
+  reaching_more i j a b c x y z h e r g k = rw e (record {
+    starts = step min min_assoc min_comm (start s) p t a b c i (first_start p s t) h g.starts k.starts r.starts;
+    ends = step max max_assoc max_comm (end p s) p t x y z i (last_end p s t) h g.ends k.ends r.ends;
+  })
 
   pub reaching_none : (i a z : ℕ) → length p.channels ≤ i → Reaching p s t i a z → (Some a ≡ first_start p s t) × (Some z ≡ last_end p s t)
   reaching_none i a z h r =
-      (sym (left_none min min_assoc min_swap (start s) p t (Some a) i h) ∙ r.starts, sym (left_none max max_assoc max_swap (end p s) p t (Some z) i h) ∙ r.ends)
+      (sym (left_none min min_assoc min_comm (start s) p t (Some a) i h) ∙ r.starts, sym (left_none max max_assoc max_comm (end p s) p t (Some z) i h) ∙ r.ends)

@@ -6,13 +6,13 @@ use Rattle.std.proofs.lemmas.List.FromFn.{fill_by_all, get_or-map-range_with_len
 use Rattle.std.proofs.lemmas.List.{get_or-map, get_or_past, length-map}
 use Rattle.std.proofs.lemmas.List.Sums.{sum-map}
 use Rattle.std.proofs.lemmas.Bool.{cases_lt}
+use Rattle.std.proofs.lemmas.Iterator.Adapters.{option_map_id}
 use Rattle.lane.specs.Claims.{Claimed, no_claim, cut}
 use Rattle.board.specs.declared.Seat.{Seat}
-use Rattle.board.specs.Entries.{Entry, exec, write, read, transfer, length_of, entries}
+use Rattle.board.specs.Entries.{Entry, exec, transfer, length_of, entries}
 use Rattle.board.specs.Plans.{no_task}
 use Rattle.board.specs.Sheets.{seat_of, start, end}
 use Rattle.board.specs.Stays.{exec_claim, bus_claim, exec_claims, bus_claims}
-use Rattle.board.proofs.Entries.{transfer_write, transfer_read}
 use Rattle.board.proofs.Fitting.{transfer_start}
 use Rattle.std.proofs.lemmas.Option.{none-some}
 use Rattle.slots.specs.declared.slot.Slot.{Slot}
@@ -20,7 +20,7 @@ use Rattle.slots.specs.Views.{places, lengths, cut_place, slot_claimed}
 use Rattle.table.specs.declared.model.Table.{Table}
 use Rattle.table.specs.Tables.{plan_in, sheet}
 use Rattle.table.proofs.Standing.{execs_long, transfers_long, fits}
-use Rattle.totals.specs.Ends.{ends}
+use Rattle.totals.specs.Ends.{end_in, ends}
 use Rattle.totals.proofs.Summing.{sum_entries}
 use Rattle.board.proofs.Members.{sums_map}
 
@@ -64,10 +64,6 @@ module _ {P : Type 0} (on from : P → ℕ) (xs : List (Slot P)) where
         ∙ uncut_place (long i) (place i) (small i))
 
 -- ---- the slots of a table
-option_same : (o : Option ℕ) → option_map (λ a. a) o ≡ o
-option_same None = refl
-option_same (Some a) = refl
-
 module _ (t : Table) where
   -- there are as many as the plan has entries
   pub tasks_long : length (vec_items t.slots.execs) ≡ length (plan_in t).tasks
@@ -100,27 +96,32 @@ module _ (t : Table) where
       ap (λ l. get_or l v 0) t.transfer_lengths
       ∙ get_or-map-range_with_len (λ u. length_of (plan_in t) (transfer u)) 0 (2 * length (plan_in t).channels) v v 0 (omega (arith, values_long)) (omega arith)
 
-  -- all lengths, of slots that were lent
-  pub lengths_sum : (xs : List (Slot Seat)) (ys : List (Slot ℕ)) → xs ≡ vec_items t.slots.execs → ys ≡ vec_items t.slots.transfers
-      → sum_by (λ x. x.length) xs + sum_by (λ y. y.length) ys ≡ sum_by (length_of (plan_in t)) (entries (plan_in t))
-  lengths_sum xs ys ex ey =
+  -- slots that were lent: they are few, and all their lengths
+  pub transfers_few : (xs : List (Slot ℕ)) → xs ≡ vec_items t.slots.transfers → length xs ≤ 1000
+  transfers_few xs same = omega (arith, values_long, ap length same, t.plan.now.channel_count)
+
+  pub lengths_sum : (xs : List (Slot Seat)) (ys : List (Slot ℕ)) (a b : ℕ) → xs ≡ vec_items t.slots.execs → ys ≡ vec_items t.slots.transfers → a ≡ sum_by (λ x. x.length) xs → b ≡ sum_by (λ y. y.length) ys → a + b ≡ sum_by (length_of (plan_in t)) (entries (plan_in t))
+  lengths_sum xs ys a b ex ey ea eb =
       let p = plan_in t in
       let n = length p.tasks in
       let execs = vec_items t.slots.execs in
       let row = fill_by_all (λ i. length_of p (exec i)) (lengths execs) n 0 (length-map execs (λ x. x.length) ∙ tasks_long) (λ i h. exec_long i (omega (arith, tasks_long))) in
       ap₂ ◌+◌
-      (sym (sum-map (λ x. x.length) xs) ∙ ap sum (ap lengths ex ∙ row) ∙ sums_map (λ k. k) (λ i. length_of p (exec i)) (range_with_len 0 n))
-      (sym (sum-map (λ y. y.length) ys) ∙ ap sum (ap lengths ey ∙ t.transfer_lengths) ∙ sums_map (λ k. k) (λ v. length_of p (transfer v)) (range_with_len 0 (2 * length p.channels)))
+      (ea ∙ sym (sum-map (λ x. x.length) xs) ∙ ap sum (ap lengths ex ∙ row) ∙ sums_map (λ k. k) (λ i. length_of p (exec i)) (range_with_len 0 n))
+      (eb ∙ sym (sum-map (λ y. y.length) ys) ∙ ap sum (ap lengths ey ∙ t.transfer_lengths) ∙ sums_map (λ k. k) (λ v. length_of p (transfer v)) (range_with_len 0 (2 * length p.channels)))
       ∙ sym (sum_entries p (length_of p))
 
-  -- the slots' ends are the entries'
-  pub exec_ends : (i : ℕ) → get_or (ends (λ (x : Seat). x.start) (vec_items t.slots.execs)) i None ≡ end (plan_in t) (sheet t) (exec i)
-  exec_ends i = end_at (λ x. x.core) (λ x. x.start) (vec_items t.slots.execs) i (length_of (plan_in t) (exec i)) (exec_long i)
+  -- the ends of slots that were lent are the entries'
+  pub exec_ends : (xs : List (Slot Seat)) → xs ≡ vec_items t.slots.execs → (i : ℕ) → get_or (ends (λ (x : Seat). x.start) xs) i None ≡ end (plan_in t) (sheet t) (exec i)
+  exec_ends xs same i =
+      ap (λ ys. get_or (ends (λ (x : Seat). x.start) ys) i None) same
+      ∙ end_at (λ x. x.core) (λ x. x.start) (vec_items t.slots.execs) i (length_of (plan_in t) (exec i)) (exec_long i)
 
-  pub transfer_ends : (v : ℕ) → get_or (ends (λ (a : ℕ). a) (vec_items t.slots.transfers)) v None ≡ end (plan_in t) (sheet t) (transfer v)
-  transfer_ends v =
-      end_at (λ a. 0) (λ a. a) (vec_items t.slots.transfers) v (length_of (plan_in t) (transfer v)) (transfer_long v)
-      ∙ ap (option_map (λ a. a + length_of (plan_in t) (transfer v))) (option_same (get_or (places (vec_items t.slots.transfers)) v None) ∙ sym (transfer_start (sheet t) v))
+  pub transfer_ends : (xs : List (Slot ℕ)) → xs ≡ vec_items t.slots.transfers → (v : ℕ) → get_or (ends (λ (a : ℕ). a) xs) v None ≡ end (plan_in t) (sheet t) (transfer v)
+  transfer_ends xs same v =
+      ap (λ ys. get_or (ends (λ (a : ℕ). a) ys) v None) same
+      ∙ end_at (λ a. 0) (λ a. a) (vec_items t.slots.transfers) v (length_of (plan_in t) (transfer v)) (transfer_long v)
+      ∙ ap (option_map (λ a. a + length_of (plan_in t) (transfer v))) (option_map_id (get_or (places (vec_items t.slots.transfers)) v None) ∙ sym (transfer_start (sheet t) v))
 
   -- the slots' claims are the sheet's
   pub exec_claims_are : map (slot_claimed (λ (x : Seat). x.core) (λ x. x.start)) (vec_items t.slots.execs) ≡ exec_claims (plan_in t) (sheet t)
@@ -129,35 +130,24 @@ module _ (t : Table) where
 
   pub bus_claims_are : map (slot_claimed (λ (a : ℕ). 0) (λ a. a)) (vec_items t.slots.transfers) ≡ bus_claims (plan_in t) (sheet t)
   bus_claims_are =
-      claims_are (λ a. 0) (λ a. a) (vec_items t.slots.transfers) bus_claim (λ l. refl) (λ l a. refl) (2 * length (plan_in t).channels) (λ v. length_of (plan_in t) (transfer v)) (λ v. start (sheet t) (transfer v)) values_long transfer_long (λ v. sym (transfer_start (sheet t) v)) (λ v z h. end_small (transfer v) z (ap (option_map (λ a. a + length_of (plan_in t) (transfer v))) (sym (option_same (start (sheet t) (transfer v)))) ∙ h))
+      claims_are (λ a. 0) (λ a. a) (vec_items t.slots.transfers) bus_claim (λ l. refl) (λ l a. refl) (2 * length (plan_in t).channels) (λ v. length_of (plan_in t) (transfer v)) (λ v. start (sheet t) (transfer v)) values_long transfer_long (λ v. sym (transfer_start (sheet t) v)) (λ v z h. end_small (transfer v) z (ap (option_map (λ a. a + length_of (plan_in t) (transfer v))) (sym (option_map_id (start (sheet t) (transfer v)))) ∙ h))
 
   -- ---- the read and the write of a channel, by the slots of its two sides
   pub record Side (e : Entry) (x : Slot ℕ) : Type 0 where
     pub starts : x.place ≡ start (sheet t) e
-    pub ends : option_map (λ a. a + x.length) x.place ≡ end (plan_in t) (sheet t) e
-    pub small : (a : ℕ) → x.place ≡ Some a → a + x.length ≤ 536870911
+    pub ends : end_in (λ (a : ℕ). a) x ≡ end (plan_in t) (sheet t) e
 
-  module _ (xs : List (Slot ℕ)) (q : xs ≡ vec_items t.slots.transfers) (c : ℕ) (d : Slot ℕ) (h : c < length (plan_in t).channels) where
-    side : (v : ℕ) (e : Entry) → v < length xs → transfer v ≡ e → Side e (get_or xs v d)
-    side v e l is =
-        let x = get_or xs v d in
-        let m : v < length (vec_items t.slots.transfers) = omega (arith, ap length q) in
-        let place : x.place ≡ start (sheet t) (transfer v) = sym (get_or-map (λ z. z.place) xs v d None l) ∙ ap (λ ys. get_or (places ys) v None) q ∙ sym (transfer_start (sheet t) v) in
-        let long : x.length ≡ length_of (plan_in t) (transfer v) = sym (get_or-map (λ z. z.length) xs v d 0 l) ∙ ap (λ ys. get_or (lengths ys) v 0) q ∙ transfer_long v m in
-        rw (← is) (record {
-          starts = place;
-          ends = ap₂ (λ n. option_map (λ a. a + n)) long place;
-          small = λ a e. omega (arith, long, t.ends_fit (transfer v) a (sym place ∙ e));
-        })
+  pub side : (v : ℕ) (d : Slot ℕ) → v < 2 * length (plan_in t).channels → Side (transfer v) (get_or (vec_items t.slots.transfers) v d)
+  side v d h =
+      let xs = vec_items t.slots.transfers in
+      let x = get_or xs v d in
+      let l : v < length xs = omega (arith, values_long) in
+      let place : x.place ≡ start (sheet t) (transfer v) = sym (get_or-map (λ z. z.place) xs v d None l) ∙ sym (transfer_start (sheet t) v) in
+      let long : x.length ≡ length_of (plan_in t) (transfer v) = sym (get_or-map (λ z. z.length) xs v d 0 l) ∙ transfer_long v l in
+      record {
+        starts = place;
+        ends = ap₂ (λ n. option_map (λ a. a + n)) long (option_map_id x.place ∙ place);
+      }
 
-    pub write_below : 2 * c < length xs
-    write_below = omega (arith, values_long, ap length q)
-
-    pub read_below : 2 * c + 1 < length xs
-    read_below = omega (arith, values_long, ap length q)
-
-    pub write_side : Side (write c) (get_or xs (2 * c) d)
-    write_side = side (2 * c) (write c) write_below (transfer_write c)
-
-    pub read_side : Side (read c) (get_or xs (2 * c + 1) d)
-    read_side = side (2 * c + 1) (read c) read_below (transfer_read c)
+  pub side_small : (e : Entry) (x : Slot ℕ) → Side e x → (z : ℕ) → end_in (λ (a : ℕ). a) x ≡ Some z → z ≤ 536870911
+  side_small e x s z h = end_small e z (sym s.ends ∙ h)

@@ -1,5 +1,6 @@
 -- The stays of a table's sheet.
 use Rattle.std.proofs.Common.{◌≡◌, ℕ, ◌+◌, ◌*◌, ◌<◌, ◌≤◌, List, map, length, sum_by, get_or, Some, None, Option, sym, refl, ap, ◌∙◌, subst, arith}
+use Rattle.std.proofs.lemmas.List.Sums.{sum_by-le}
 use Rattle.std.proofs.lemmas.List.{get_or-map, length-map, ext_get_or}
 use Rattle.lane.specs.declared.claim.Span.{Span}
 use Rattle.lane.specs.Claims.{Claimed, no_claim, cut, claim_at}
@@ -15,11 +16,17 @@ use Rattle.table.specs.Tables.{plan_in, sheet}
 use Rattle.totals.specs.Spans.{span_of}
 use Rattle.board.specs.Totals.{has_room, clear_stay}
 use Rattle.board.proofs.Counts.{clear_le}
-use Rattle.board.proofs.Members.{sums_map, of_below}
+use Rattle.board.proofs.Members.{sums_map}
 use Rattle.std.specs.List.{range_with_len}
-use Rattle.std.proofs.lemmas.List.FromFn.{length-range_with_len}
+use Rattle.std.proofs.lemmas.List.FromFn.{length-range_with_len, get_or-range_with_len}
 use Rattle.totals.proofs.Slots.{uncut, seated_below}
-use Rattle.totals.proofs.Summing.{sums_small}
+
+-- the sum of all stays' lengths, and how many cycles of them are clear
+abbrev pub all_lengths : Table → ℕ
+all_lengths t = sum_by (λ c. c.length) (stay_claims (plan_in t) (sheet t))
+
+abbrev pub all_clear : Table → ℕ
+all_clear t = sum_by (clear_stay (plan_in t) (sheet t)) (range_with_len 0 (length (plan_in t).tasks))
 
 module _ (t : Table) where
   -- a seated task's stay ends behind its start, and by the last cycle
@@ -63,15 +70,20 @@ module _ (t : Table) where
   the_stay i = stay_claim (seat_of (sheet t) i) (first_start (plan_in t) (sheet t) i) (last_end (plan_in t) (sheet t) i)
 
   -- ---- sums of stays
-  few : length (range_with_len 0 (length (plan_in t).tasks)) ≤ 64
+  abbrev tasks : List ℕ
+  tasks = range_with_len 0 (length (plan_in t).tasks)
+
+  few : length tasks ≤ 64
   few = omega (arith, length-range_with_len 0 (length (plan_in t).tasks), t.plan.now.task_count.1)
 
-  pub lengths_small : sum_by (λ c. c.length) (stay_claims (plan_in t) (sheet t)) ≤ 64 * 536870911
-  lengths_small =
-      let tasks = range_with_len 0 (length (plan_in t).tasks) in
-      omega (arith, few, sums_map (λ c. c.length) the_stay tasks, sums_small (λ i. (the_stay i).length) tasks (λ i m. omega (arith, stay_small_at i (seat_of (sheet t) i) refl (of_below (length (plan_in t).tasks) i m))))
+  below : (k d : ℕ) → k < length tasks → get_or tasks k d < length (plan_in t).tasks
+  below k d h = let n = length (plan_in t).tasks in let long = length-range_with_len 0 n in omega (arith, long, get_or-range_with_len 0 n k d (omega (arith, long)))
 
-  pub clear_small : sum_by (clear_stay (plan_in t) (sheet t)) (range_with_len 0 (length (plan_in t).tasks)) ≤ 64 * 536870911
+  pub lengths_small : all_lengths t ≤ 64 * 536870911
+  lengths_small =
+      omega (arith, few, sums_map (λ c. c.length) the_stay tasks, sum_by-le (λ i. (the_stay i).length) 536870911 tasks (λ k d h. let i = get_or tasks k d in omega (arith, stay_small_at i (seat_of (sheet t) i) refl (below k d h))))
+
+  pub clear_small : all_clear t ≤ 64 * 536870911
   clear_small =
       let p = plan_in t in
-      omega (arith, few, sums_small (clear_stay p (sheet t)) (range_with_len 0 (length p.tasks)) (λ i m. omega (arith, clear_le (stay_claims p (sheet t)) i (λ k. has_room p i (seat_of (sheet t) i)), stay_small i (of_below (length p.tasks) i m))))
+      omega (arith, few, sum_by-le (clear_stay p (sheet t)) 536870911 tasks (λ k d h. let i = get_or tasks k d in omega (arith, clear_le (stay_claims p (sheet t)) i (λ k. has_room p i (seat_of (sheet t) i)), stay_small i (below k d h))))

@@ -1,11 +1,8 @@
 -- Sums over the entries and the stays of a plan.
-use Rattle.std.proofs.Common.{◌≡◌, ℕ, ◌+◌, ◌*◌, ◌≤◌, List, [], ◌∷◌, map, length, sum_by, sym, refl, ap, ◌∙◌, ap₂, arith}
-use mathlib.Core.List.Memᴰ.{head as here}
-use mathlib.Core.List.Memᴰ.{tail as later}
-use mathlib.Core.List.{Memᴰ as Member}
+use Rattle.std.proofs.Common.{◌≡◌, ℕ, ◌+◌, ◌*◌, ◌≤◌, map, length, sum_by, sym, ap, ◌∙◌, ap₂, arith}
 use Rattle.std.specs.List.{range_with_len}
 use Rattle.std.proofs.lemmas.List.FromFn.{length-map-range_with_len, sum_by-map-range_with_len_more}
-use Rattle.std.proofs.lemmas.List.Sums.{sum_by-append, sum_by-cons}
+use Rattle.std.proofs.lemmas.List.Sums.{sum_by-append, sum_by-le}
 use Rattle.std.proofs.lemmas.List.{length-append, map-id}
 use Rattle.board.specs.Entries.{Entry, exec, transfer, length_of, entries}
 use Rattle.board.specs.Plans.{PlanView, Valid}
@@ -27,17 +24,13 @@ sum_entries p f =
     ∙ ap₂ ◌+◌ (sums_map f exec (range_with_len 0 (length p.tasks))) (sums_map f transfer (range_with_len 0 (2 * length p.channels)))
 
 -- ---- bounds
-pub sums_small : {A : Type 0} (f : A → ℕ) (xs : List A) → ((x : A) → Member x xs → f x ≤ 536870911) → sum_by f xs ≤ length xs * 536870911
-sums_small f [] h = omega arith
-sums_small f (x ∷ xs) h = omega (arith, sum_by-cons f x xs, h x (here refl), sums_small f xs (λ y m. h y (later m)))
-
 module _ (p : PlanView) (v : Valid p) where
   entries_few : length (entries p) ≤ 576
   entries_few =
       omega (arith, v.task_count.1, v.channel_count, length-append (map exec (range_with_len 0 (length p.tasks))) (map transfer (range_with_len 0 (2 * length p.channels))), length-map-range_with_len exec 0 (length p.tasks), length-map-range_with_len transfer 0 (2 * length p.channels))
 
   pub lengths_small : sum_by (length_of p) (entries p) ≤ 576 * 536870911
-  lengths_small = omega (arith, entries_few, sums_small (length_of p) (entries p) (λ e m. omega (arith, length_high p v e (of_entries p e m))))
+  lengths_small = omega (arith, entries_few, sums_le (length_of p) (λ e. 536870911) (entries p) (λ e m. omega (arith, length_high p v e (of_entries p e m))), sum_by-le (λ (e : Entry). 536870911) 536870911 (entries p) (λ k d h. omega arith))
 
   pub clear_small : (s : Sheet) → sum_by (clear_of p s) (entries p) ≤ 576 * 536870911
   clear_small s = omega (arith, lengths_small, sums_le (clear_of p s) (length_of p) (entries p) (λ e m. clear_within p s e (of_entries p e m)))

@@ -37,20 +37,20 @@ module _ (p : PlanView) (s : Sheet) (t k : ℕ) where
   waiting_none b i h = ap (λ cs. b && list_all awaits cs) (rest_none (length p.channels) i h) ∙ and-true b
 
   -- a channel into the task, whose read ends then, and any other channel
-  pub waiting_into : (at m i : ℕ) → i < length p.channels → eqb (consumer p i) t ≡ true → Some m ≡ end p s (read i) → (ended_by k (Some at) && list_all awaits (range_with_len i (length p.channels - i))) ≡ (ended_by k (Some (max m at)) && list_all awaits (range_with_len (i + 1) (length p.channels - (i + 1))))
-  waiting_into at m i h e q =
-      waiting_more (ended_by k (Some at)) i h
+  pub waiting_into : (at m n i j : ℕ) → i < length p.channels → j ≡ i + 1 → n ≡ max m at → eqb (consumer p i) t ≡ true → Some m ≡ end p s (read i) → (ended_by k (Some n) && list_all awaits (range_with_len j (length p.channels - j))) ≡ (ended_by k (Some at) && list_all awaits (range_with_len i (length p.channels - i)))
+  waiting_into at m n i j h ej en e q =
+      rw (ej, en) (sym (waiting_more (ended_by k (Some at)) i h
       ∙ ap (λ b. b && list_all awaits (range_with_len (i + 1) (length p.channels - (i + 1))))
-      (ap (λ o. ended_by k (Some at) && ended_by k o) (ap (λ b. cond b (end p s (read i)) (Some 0)) e ∙ sym q) ∙ both_by at m)
+      (ap (λ o. ended_by k (Some at) && ended_by k o) (ap (λ b. cond b (end p s (read i)) (Some 0)) e ∙ sym q) ∙ both_by at m)))
     where
       both_by : (a b : ℕ) → (leb a k && leb b k) ≡ leb (max b a) k
       both_by a b = grind (arith, nat_tests)
 
-  pub waiting_past : (at i : ℕ) → i < length p.channels → eqb (consumer p i) t ≡ false → (ended_by k (Some at) && list_all awaits (range_with_len i (length p.channels - i))) ≡ (ended_by k (Some at) && list_all awaits (range_with_len (i + 1) (length p.channels - (i + 1))))
-  waiting_past at i h e =
-      waiting_more (ended_by k (Some at)) i h
+  pub waiting_past : (at i j : ℕ) → i < length p.channels → j ≡ i + 1 → eqb (consumer p i) t ≡ false → (ended_by k (Some at) && list_all awaits (range_with_len j (length p.channels - j))) ≡ (ended_by k (Some at) && list_all awaits (range_with_len i (length p.channels - i)))
+  waiting_past at i j h ej e =
+      rw ej (sym (waiting_more (ended_by k (Some at)) i h
       ∙ ap (λ b. b && list_all awaits (range_with_len (i + 1) (length p.channels - (i + 1))))
-      (ap (λ o. ended_by k (Some at) && ended_by k o) (ap (λ b. cond b (end p s (read i)) (Some 0)) e) ∙ ap (λ b. ended_by k (Some at) && b) (le-leb 0 k (omega arith)) ∙ and-true (ended_by k (Some at)))
+      (ap (λ o. ended_by k (Some at) && ended_by k o) (ap (λ b. cond b (end p s (read i)) (Some 0)) e) ∙ ap (λ b. ended_by k (Some at) && b) (le-leb 0 k (omega arith)) ∙ and-true (ended_by k (Some at)))))
 
   -- a read into the task that is not placed
   pub waiting_never : (b : Bool) (i : ℕ) → i < length p.channels → eqb (consumer p i) t ≡ true → None ≡ end p s (read i) → (b && list_all awaits (range_with_len i (length p.channels - i))) ≡ false

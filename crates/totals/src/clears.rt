@@ -10,7 +10,7 @@ use crate::stays::Stays;
 use lane::{Claim, alone};
 use table::Table;
 
-// How many cycles of the claim at `position` are clear: alone on its resource, from `ready` on; none where that is none.
+// How many cycles of the claim at `position` are clear: alone on its resource, from `ready` on; 0 where `ready` is none.
 fn clear_from<C: Claim>(claims: &[C], position: usize, ready: Option<u32>) -> u32
     ensures { (test : ℕ → Bool) → ((k : ℕ) → ended_by k ready ≡ test k) → result ≡ clear_in (map C.claimed claims.now) position test }
 {
@@ -41,9 +41,10 @@ fn has_room(table: &Table<'_>, task: usize) -> bool
     let Some(seat) = table.seat(task) else {
         return false;
     };
+    let plan = table.plan();
     // A seated task is one of the plan, so it has a need.
-    let need = table.plan().need(task).unwrap_or(0);
-    need <= table.plan().regions()[seat.region as usize]
+    let need = plan.need(task).unwrap_or(0);
+    need <= plan.regions()[seat.region as usize]
 }
 
 impl Stays<'_, '_> {

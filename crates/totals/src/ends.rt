@@ -4,18 +4,25 @@ ghost use Rattle.board.specs.Entries.{exec, transfer};
 ghost use Rattle.board.specs.Sheets.{end};
 ghost use Rattle.board.specs.Totals.{ended_by, ready};
 ghost use Rattle.table.specs.Tables.{plan_in, sheet};
-ghost use Rattle.totals.specs.Ends.{ends};
+ghost use Rattle.totals.specs.Ends.{end_in, ends};
 
 use slots::{Place, Slot};
 use table::Table;
+
+// The end of a slot's entry, if it is placed.
+pub(crate) fn slot_end<P: Place>(slot: &Slot<P>) -> Option<u32>
+    requires { (z : ℕ) → end_in P.from slot.now ≡ there z → z ≤ 536870911 }
+    ensures { result ≡ end_in P.from slot.now }
+{
+    Some(slot.place?.start() + slot.length)
+}
 
 // The end of the entry with this number, if it is placed.
 fn end_of<P: Place>(slots: &[Slot<P>], number: usize) -> Option<u32>
     requires { (z : ℕ) → slice_index_or (ends P.from slots.now) number nothing ≡ there z → z ≤ 536870911 }
     ensures { result ≡ slice_index_or (ends P.from slots.now) number nothing }
 {
-    let slot = slots.get(number)?;
-    Some(slot.place?.start() + slot.length)
+    slot_end(slots.get(number)?)
 }
 
 // The end of a task's exec, if it is placed.
@@ -37,9 +44,10 @@ pub(crate) fn exec_ready(table: &Table<'_>, task: usize) -> Option<u32>
     ensures { (k : ℕ) → ended_by k result ≡ ready (plan_in table.now) (sheet table.now) (exec task) k }
 {
     let mut at = 0;
-    for (number, channel) in table.plan().channels().iter().enumerate() {
+    let (sides, _) = table.transfers().as_chunks::<2>();
+    for (channel, [_, read]) in table.plan().channels().iter().zip(sides) {
         if channel.to == task {
-            at = transfer_end(table, 2 * number + 1)?.max(at);
+            at = slot_end(read)?.max(at);
         }
     }
     Some(at)

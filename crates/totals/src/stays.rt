@@ -1,13 +1,13 @@
 // The stays of the tasks.
-ghost use Rattle.std.specs.Prelude.{◌≡◌, ℕ, ◌+◌, ◌≤◌, min, max, map, if◌then◌else◌, Some as there, None as nothing};
-ghost use Rattle.std.specs.Option.{option_map};
+ghost use Rattle.std.specs.Prelude.{◌≡◌, ℕ, ◌≤◌, min, max, map, Some as there};
 ghost use Rattle.board.specs.Entries.{exec as exec_of};
 ghost use Rattle.board.specs.Sheets.{seat_of, start, end};
 ghost use Rattle.board.specs.Stays.{of_two, first_start, last_end, stay_claim, stay_claims};
 ghost use Rattle.table.specs.Tables.{plan_in, sheet};
+ghost use Rattle.totals.specs.Ends.{end_in};
 ghost use Rattle.totals.specs.Spans.{span_of};
 
-use crate::ends::exec_end;
+use crate::ends::{exec_end, slot_end};
 use arrayvec::ArrayVec;
 use lane::Span;
 use slots::TransferSlot;
@@ -21,18 +21,18 @@ struct Reach {
 }
 
 impl Reach {
-    // With one transfer more, if it is the task's own and is placed.
-    fn with(self, own: bool, slot: &TransferSlot) -> Reach
-        requires { (a : ℕ) → slot.now.place ≡ there a → a + slot.now.length ≤ 536870911 }
-        ensures first { there result.first ≡ of_two min (there self.first) (if own then slot.now.place else nothing) }
-        ensures end { there result.end ≡ of_two max (there self.end) (if own then option_map (λ a. a + slot.now.length) slot.now.place else nothing) }
+    // With one transfer more, if it is placed.
+    fn with(self, slot: &TransferSlot) -> Reach
+        requires { (z : ℕ) → end_in (λ a. a) slot.now ≡ there z → z ≤ 536870911 }
+        ensures first { there result.first ≡ of_two min (there self.first) slot.now.place }
+        ensures end { there result.end ≡ of_two max (there self.end) (end_in (λ a. a) slot.now) }
     {
-        match slot.place {
-            Some(start) if own => Reach {
-                first: self.first.min(start),
-                end: self.end.max(start + slot.length),
-            },
-            _ => self,
+        let (Some(start), Some(end)) = (slot.place, slot_end(slot)) else {
+            return self;
+        };
+        Reach {
+            first: self.first.min(start),
+            end: self.end.max(end),
         }
     }
 }
@@ -44,13 +44,16 @@ fn reach_of(table: &Table<'_>, task: usize, exec: Reach) -> Reach
     ensures first { there result.first ≡ first_start (plan_in table.now) (sheet table.now) task }
     ensures end { there result.end ≡ last_end (plan_in table.now) (sheet table.now) task }
 {
-    let slots = table.transfers();
     let mut reach = exec;
-    // By number: the slots of a channel lie at twice its number and behind that. Pairs of slots were no plainer.
-    for (number, channel) in table.plan().channels().iter().enumerate() {
-        reach = reach
-            .with(channel.to == task, &slots[2 * number + 1])
-            .with(channel.from == task, &slots[2 * number]);
+    // The slots of a channel lie side by side.
+    let (sides, _) = table.transfers().as_chunks::<2>();
+    for (channel, [write, read]) in table.plan().channels().iter().zip(sides) {
+        if channel.to == task {
+            reach = reach.with(read);
+        }
+        if channel.from == task {
+            reach = reach.with(write);
+        }
     }
     reach
 }

@@ -13,15 +13,15 @@ use crate::stays::Stays;
 use slots::Slot;
 use table::Table;
 
-// The lengths of all these slots.
-fn lengths<P>(slots: &[Slot<P>]) -> u64
+// The sum of these slots' lengths.
+fn total_length<P>(slots: &[Slot<P>]) -> u64
     requires { length slots.now ≤ 1000 }
     ensures { result ≡ sum_by (λ x. x.length) slots.now }
 {
     slots.iter().map(|slot| u64::from(slot.length)).sum()
 }
 
-// The sum of a number for each of the first so many.
+// The sum of `number(i)` for i below `count`. No plan has 1000 tasks or transfers, and so few u32 add up in a u64.
 fn sum<F: Fn(usize) -> u32>(count: usize, number: F) -> u64
     requires few { count ≤ 1000 }
     requires callable { F.IsAlwaysCallable number }
@@ -46,8 +46,8 @@ fn clear_cycles(table: &Table<'_>) -> u64
 }
 
 impl Stays<'_, '_> {
-    // The lengths of all stays: spans and slots share no more than this line of std, so one function were no plainer.
-    fn lengths(&self) -> u64
+    // The sum of all stays' lengths. Spans and slots share only this line of std: one function would be no plainer.
+    fn total_length(&self) -> u64
         ensures { result ≡ sum_by (λ c. c.length) (stay_claims (plan_in self.now.table.now) (sheet self.now.table.now)) }
     {
         self.spans.iter().map(|span| u64::from(span.length)).sum()
@@ -68,7 +68,9 @@ pub fn totals(table: &Table<'_>) -> (u64, u64)
     ensures law { EqualTotalsMeanNoFault }
 {
     let stays = Stays::of(table);
-    let wanted = lengths(table.execs()) + lengths(table.transfers()) + stays.lengths();
+    let wanted = total_length(table.execs())
+        + total_length(table.transfers())
+        + stays.total_length();
     let clear = clear_cycles(table) + stays.clear_cycles();
     (wanted, clear)
 }

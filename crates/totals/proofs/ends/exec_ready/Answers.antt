@@ -1,54 +1,52 @@
-use Rattle.std.proofs.Common.{◌≡◌, ◌+◌, ◌-◌, ◌<◌, ◌&&◌, length, get_or, vec_items, Some, sym, ap, ◌∙◌, arith}
-use Rattle.std.specs.List.{range_with_len, list_all}
-use Rattle.std.proofs.lemmas.Bool.Decides.{nat_tests}
-use Rattle.board.specs.Entries.{consumer}
-use Rattle.board.specs.Plans.{no_channel}
-use Rattle.board.specs.Sheets.{end}
+use Rattle.std.proofs.Common.{rules, Some, sym, ap, ◌∙◌}
+use Rattle.std.proofs.lemmas.Bool.{eq-eqb, ne_eqb}
+use Rattle.std.proofs.lemmas.List.{length_push}
+use Rattle.board.specs.Entries.{read}
 use Rattle.board.specs.Totals.{ended_by}
-use Rattle.board.proofs.Entries.{transfer_read}
 use Rattle.table.specs.Tables.{plan_in, sheet}
-use Rattle.totals.proofs.Waiting.{awaits, waiting_first, waiting_into, waiting_past, waiting_never, waiting_none}
+use Rattle.totals.proofs.Sides.{turn, turns}
+use Rattle.totals.proofs.Slots.{side_small}
+use Rattle.totals.proofs.Waiting.{waiting_first, waiting_into, waiting_past, waiting_never, waiting_none}
 use Rattle.totals.proofs.ends.exec_ready.Goals as goal
-use Rattle.totals.proofs.ends.exec_ready.Goals.{then-channel-task+in_ok-transfer_end, else-channel-task}
 
-pub loop-number-init : goal.loop-number-init
-loop-number-init c k = waiting_first (plan_in c.args.table.now) (sheet c.args.table.now) c.args.task k
+pub loop-channel-init : goal.loop-channel-init
+loop-channel-init c = record { can = search rules; finite = search rules; waits = waiting_first (plan_in c.args.table.now) (sheet c.args.table.now) c.args.task }
 
-pub returns-in_err-transfer_end : goal.returns-in_err-transfer_end
-returns-in_err-transfer_end c k =
+pub slot_end-requires : goal.slot_end-requires
+slot_end-requires c = side_small c.args.table.now (read _) _ (turn c.args.table.now _ _ _ c.next.new.self (search rules) (search rules) c.loop-channel.yielded_by _ c.in-Some.is c.next.ensures.steps).read_side
+
+pub returns-in_err-slot_end : goal.returns-in_err-slot_end
+returns-in_err-slot_end c k =
     let t = c.args.table.now in
-    let i = c.loop-number.number in
-    let same = c.channels-channel-items.ensures ∙ ap (λ r. vec_items r.now.channels) c.plan.ensures in
-    let h : i < length (plan_in t).channels = omega (arith, ap length same) in
-    let to : consumer (plan_in t) i ≡ c.args.task = ap (λ cs. (get_or cs i no_channel).to) (sym same) ∙ c.if-channel-task.true in
+    let z = turn t _ _ _ c.next.new.self (search rules) (search rules) c.loop-channel.yielded_by _ c.in-Some.is c.next.ensures.steps in
     ap (ended_by k) c.from_residual.ensures
-    ∙ sym (waiting_never (plan_in t) (sheet t) c.args.task k (ended_by k (Some c.loop-number.at)) i h (grind (arith, nat_tests)) (c.in_err-transfer_end.ensures ∙ ap (end (plan_in t) (sheet t)) (transfer_read i)))
-    ∙ c.loop-number.invariant k
+    ∙ sym (waiting_never (plan_in t) (sheet t) c.args.task k (ended_by k (Some c.loop-channel.at)) _ z.below (eq-eqb _ _ (ap (λ d. d.to) (sym z.is) ∙ c.if-channel-task.true)) (c.in_err-slot_end.ensures ∙ z.read_side.ends))
+    ∙ c.loop-channel.invariant.waits k
 
-pub loop-number-preserved : goal.loop-number-preserved
-loop-number-preserved c k =
+pub loop-channel-preserved-then-channel-task : goal.loop-channel-preserved-then-channel-task
+loop-channel-preserved-then-channel-task c =
     let t = c.args.table.now in
-    let p = plan_in t in
-    let i = c.loop-number.number in
-    let rest = list_all (awaits p (sheet t) c.args.task k) (range_with_len (i + 1) (length p.channels - (i + 1))) in
-    let same = c.channels-channel-items.ensures ∙ ap (λ r. vec_items r.now.channels) c.plan.ensures in
-    let h : i < length p.channels = omega (arith, ap length same) in
-    let to = ap (λ cs. (get_or cs i no_channel).to) same in
-    elim c.if-channel-task.branch [
-      | then-channel-task+in_ok-transfer_end w ↦
-          let e : consumer p i ≡ c.args.task = sym to ∙ w.if-channel-task.true in
-          ap (λ a. ended_by k (Some a) && rest) (w.at-is ∙ w.max-at.ensures)
-          ∙ sym (waiting_into p (sheet t) c.args.task k c.loop-number.at w.in_ok-transfer_end.field-0 i h (grind (arith, nat_tests)) (w.in_ok-transfer_end.ensures ∙ ap (end p (sheet t)) (transfer_read i)))
-          ∙ c.loop-number.invariant k
-      | else-channel-task w ↦
-          ap (λ a. ended_by k (Some a) && rest) w.at-is
-          ∙ sym (waiting_past p (sheet t) c.args.task k c.loop-number.at i h (grind (arith, nat_tests, w.if-channel-task.false, to)))
-          ∙ c.loop-number.invariant k
-    ]
+    let z = turn t _ _ _ c.next.new.self (search rules) (search rules) c.loop-channel.yielded_by _ c.in-Some.is c.next.ensures.steps in
+    let into = eq-eqb _ _ (ap (λ d. d.to) (sym z.is) ∙ c.if-channel-task.true) in
+    record {
+      can = search rules;
+      finite = search rules;
+      waits = λ k. waiting_into (plan_in t) (sheet t) c.args.task k c.loop-channel.at c.in_ok-slot_end.field-0 c.max-at.result _ _ z.below (length_push c.loop-channel.yielded _) c.max-at.ensures into (c.in_ok-slot_end.ensures ∙ z.read_side.ends) ∙ c.loop-channel.invariant.waits k;
+    }
+
+pub loop-channel-preserved : goal.loop-channel-preserved
+loop-channel-preserved c =
+    let t = c.args.table.now in
+    let z = turn t _ _ _ c.next.new.self (search rules) (search rules) c.loop-channel.yielded_by _ c.in-Some.is c.next.ensures.steps in
+    let other = ne_eqb _ _ (λ h. c.if-channel-task.false (ap (λ d. d.to) z.is ∙ h)) in
+    record {
+      can = search rules;
+      finite = search rules;
+      waits = λ k. waiting_past (plan_in t) (sheet t) c.args.task k c.loop-channel.at _ _ z.below (length_push c.loop-channel.yielded _) other ∙ c.loop-channel.invariant.waits k;
+    }
 
 pub returns : goal.returns
 returns c k =
     let t = c.args.table.now in
-    let long = ap length (c.channels-channel-items.ensures ∙ ap (λ r. vec_items r.now.channels) c.plan.ensures) in
-    sym (waiting_none (plan_in t) (sheet t) c.args.task k (ended_by k (Some c.loop-number.at)) c.loop-number.number (omega (arith, long)))
-    ∙ c.loop-number.invariant k
+    sym (waiting_none (plan_in t) (sheet t) c.args.task k (ended_by k (Some c.loop-channel.at)) _ (turns t _ _ _ c.next.new.self (search rules) (search rules) c.loop-channel.yielded_by c.in-None.is c.next.ensures.steps))
+    ∙ c.loop-channel.invariant.waits k

@@ -4,14 +4,12 @@ use Rattle.board.specs.Entries.{exec, transfer}
 use Rattle.board.specs.Totals.{clear_of}
 use Rattle.plan.proofs.Standing.{valid}
 use Rattle.table.specs.Tables.{plan_in, sheet}
-use Rattle.totals.proofs.Slots.{tasks_long, values_long}
+use Rattle.totals.proofs.Slots.{tasks_long, values_long, transfers_few}
 use Rattle.totals.proofs.Summing.{sum_entries, clear_small}
 use Rattle.totals.proofs.sums.clear_cycles.Goals as goal
 
 pub sum-requires-2-clause-few : goal.sum-requires-2-clause-few
-sum-requires-2-clause-few c =
-    let t = c.args.table.now in
-    omega (arith, values_long t, ap length c.transfers.ensures, t.plan.now.channel_count)
+sum-requires-2-clause-few c = transfers_few c.args.table.now _ c.transfers.ensures
 
 pub returns : goal.returns
 returns c =
