@@ -1,9 +1,9 @@
 -- Sums over the entries and the stays of a plan.
-use Rattle.std.proofs.Common.{◌≡◌, ℕ, ◌+◌, ◌*◌, ◌≤◌, map, length, sum_by, sym, ap, ◌∙◌, ap₂, arith}
+use Rattle.std.proofs.Common.{◌≡◌, ℕ, ◌+◌, ◌*◌, ◌≤◌, map, length, sum_by, ◌∙◌, ap₂, arith}
 use Rattle.std.specs.List.{range_with_len}
-use Rattle.std.proofs.lemmas.List.FromFn.{length-map-range_with_len, sum_by-map-range_with_len_more}
+use Rattle.std.proofs.lemmas.List.FromFn.{length-map-range_with_len}
 use Rattle.std.proofs.lemmas.List.Sums.{sum_by-append, sum_by-le}
-use Rattle.std.proofs.lemmas.List.{length-append, map-id}
+use Rattle.std.proofs.lemmas.List.{length-append}
 use Rattle.board.specs.Entries.{Entry, exec, transfer, length_of, entries}
 use Rattle.board.specs.Plans.{PlanView, Valid}
 use Rattle.board.specs.Sheets.{Sheet}
@@ -11,11 +11,6 @@ use Rattle.board.specs.Totals.{clear_of}
 use Rattle.board.proofs.Claims.{clear_within}
 use Rattle.board.proofs.Entries.{length_high, of_entries}
 use Rattle.board.proofs.Members.{sums_map, sums_le}
-
--- one number more
-pub sum_more : (f : ℕ → ℕ) (n : ℕ) → sum_by f (range_with_len 0 (n + 1)) ≡ sum_by f (range_with_len 0 n) + f n
-sum_more f n =
-    ap (sum_by f) (sym (map-id (range_with_len 0 (n + 1)))) ∙ sum_by-map-range_with_len_more f (λ k. k) 0 n n (omega arith) ∙ ap (λ l. sum_by f l + f n) (map-id (range_with_len 0 n))
 
 -- over all entries: over the execs, and then over the transfers
 pub sum_entries : (p : PlanView) (f : Entry → ℕ) → sum_by f (entries p) ≡ sum_by (λ t. f (exec t)) (range_with_len 0 (length p.tasks)) + sum_by (λ v. f (transfer v)) (range_with_len 0 (2 * length p.channels))

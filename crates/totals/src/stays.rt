@@ -91,6 +91,7 @@ impl<'t, 'p> Stays<'t, 'p> {
         ensures { result.table ≡ table.entry }
     {
         let mut spans = ArrayVec::new();
+        // By `push`: `extend` and `collect` answer an error where the vector is full, and `collect` asks for the heap.
         for task in 0..table.plan().tasks().len() {
             spans.push(stay(table, task));
         }

@@ -13,7 +13,7 @@ use crate::stays::Stays;
 use slots::Slot;
 use table::Table;
 
-// The sum of these slots' lengths.
+// The sum of these slots' lengths. A plan has fewer than 1000 entries, and so few u32 add up in a u64.
 fn total_length<P>(slots: &[Slot<P>]) -> u64
     requires { length slots.now ≤ 1000 }
     ensures { result ≡ sum_by (λ x. x.length) slots.now }
@@ -21,17 +21,13 @@ fn total_length<P>(slots: &[Slot<P>]) -> u64
     slots.iter().map(|slot| u64::from(slot.length)).sum()
 }
 
-// The sum of `number(i)` for i below `count`. No plan has 1000 tasks or transfers, and so few u32 add up in a u64.
+// The sum of `number(i)` for i below `count`. Again, no count in a plan reaches 1000.
 fn sum<F: Fn(usize) -> u32>(count: usize, number: F) -> u64
     requires few { count ≤ 1000 }
     requires callable { F.IsAlwaysCallable number }
-    ensures { (f : ℕ → ℕ) → ((i n : ℕ) → i < count → F.post number i n → n ≡ f i) → result ≡ sum_by f (range_with_len 0 count) }
+    ensures { (f : ℕ → ℕ) → ((i n : ℕ) → F.post number i n → n ≡ f i) → result ≡ sum_by f (range_with_len 0 count) }
 {
-    let mut total = 0;
-    for i in 0..count {
-        total += u64::from(number(i));
-    }
-    total
+    (0..count).map(|i| u64::from(number(i))).sum()
 }
 
 // How many cycles of all entries are clear.

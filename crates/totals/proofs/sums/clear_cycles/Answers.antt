@@ -17,8 +17,8 @@ returns c =
     let p = plan_in t in
     let f = clear_of p (sheet t) in
     ap₂ ◌+◌
-    (c.sum.ensures (λ i. f (exec i)) (λ i n l k. search rules) ∙ ap (λ m. sum_by (λ i. f (exec i)) (range_with_len 0 m)) (ap length c.execs.ensures ∙ tasks_long t))
-    (c.sum-2.ensures (λ v. f (transfer v)) (λ v n l k. search rules) ∙ ap (λ m. sum_by (λ v. f (transfer v)) (range_with_len 0 m)) (ap length c.transfers.ensures ∙ values_long t))
+    (c.sum.ensures (λ i. f (exec i)) (λ i n k. search rules) ∙ ap (λ m. sum_by (λ i. f (exec i)) (range_with_len 0 m)) (ap length c.execs.ensures ∙ tasks_long t))
+    (c.sum-2.ensures (λ v. f (transfer v)) (λ v n k. search rules) ∙ ap (λ m. sum_by (λ v. f (transfer v)) (range_with_len 0 m)) (ap length c.transfers.ensures ∙ values_long t))
     ∙ sym (sum_entries p f)
 
 pub overflow_add-result : goal.overflow_add-result

@@ -13,4 +13,4 @@ returns c =
     let t = s.table.now in
     let f = clear_stay (plan_in t) (sheet t) in
     let long : c.len.result ≡ length (plan_in t).tasks = c.len.ensures.value ∙ sym (length-map s.spans.items span_of) ∙ ap length s.claims ∙ stay_claims_length (plan_in t) (sheet t) in
-    c.sum.ensures f (λ i n l k. search rules) ∙ ap (λ m. sum_by f (range_with_len 0 m)) long
+    c.sum.ensures f (λ i n k. search rules) ∙ ap (λ m. sum_by f (range_with_len 0 m)) long
