@@ -20,10 +20,10 @@ fn answer(heap: Global, words: &[u32]) -> Result<Verdict, Fail> {
             tasks: plan.tasks().len(),
             channels: plan.channels().len(),
         })),
-        Err(error) => {
-            let refusal = error.refusal().ok_or(Fail::new("out of memory"))?;
-            Ok(Err(refusal))
-        }
+        Err(error) => match error.refusal() {
+            Some(refusal) => Ok(Err(refusal)),
+            None => Err(Fail::new("out of memory")),
+        },
     }
 }
 
