@@ -13,6 +13,7 @@ pub fn gap<C: Claim>(claims: &[C], resource: u32, from: u32, length: u32) -> u32
 {
     let row = Row { resource, length };
     let mut at = from;
+    // From gap to gap: how many there are is known only at the end.
     loop {
         let next = row.pushed(claims, at);
         if next == at {

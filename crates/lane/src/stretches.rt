@@ -22,12 +22,14 @@ pub fn alone<C: Claim>(claims: &[C], position: usize, from: u32) -> u32
     )
 }
 
-// How many cycles from `start` on and before `end` no claim of either slice has on the resource.
+// How many cycles from `start` on and before `end` no claim of either slice has on the resource. There may be none, so
+// they are no window.
 fn free_cycles<C: Claim>(before: &[C], after: &[C], resource: u32, start: u32, end: u32) -> u32
     ensures { result ≡ counted (untaken (map C.claimed before.now ++ map C.claimed after.now) resource) start (end - start) }
 {
     let mut at = start;
     let mut count = 0;
+    // From stretch to stretch, each as long as the claims make it.
     while at < end {
         let window = Window {
             resource,

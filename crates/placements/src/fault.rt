@@ -8,7 +8,7 @@ use std::error::Error;
 use std::fmt;
 use words::{Layer, Refusal};
 
-// What can be wrong with a sheet. The place is 0 in a call.
+// What can be wrong with a sheet. In a call there is no file, and the format then has the place 0.
 #[derive(Clone, Copy, Debug, PartialEq, Eq)]
 pub enum Fault {
     // What the records below it found.

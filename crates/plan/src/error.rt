@@ -9,7 +9,8 @@ use std::error::Error;
 use std::fmt;
 use words::Refusal;
 
-// Want of memory, or the fault for which a file is refused. Like the error of bytes, whose one fault is named by what it is.
+// Want of memory, or the fault for which a file is refused. Not one type with the error of bytes, whose one fault has a
+// name of its own.
 #[derive(Clone, Copy, Debug, PartialEq, Eq)]
 pub enum ReadError {
     NoMemory,

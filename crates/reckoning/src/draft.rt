@@ -4,7 +4,8 @@ ghost use Rattle.std.specs.Prelude.{◌≡◌, ◌+◌, ◌*◌, ◌%◌, IfOk, 
 use std::alloc::{AllocError, Global};
 use words::Kind;
 
-// A word with these top three bits and this number.
+// A word with these top three bits and this number. By number, since a damaged word may have any of the eight, also one
+// that is no `Kind`.
 pub(crate) fn word(top: u32, number: u32) -> u32
     ensures { result ≡ top % 8 * 536870912 + number % 536870912 }
 {

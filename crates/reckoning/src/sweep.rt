@@ -10,7 +10,7 @@ use std::alloc::{AllocError, Global};
 use std::ops::RangeInclusive;
 
 // The parts of a plan file, by the kinds of the words that open them. They are not `words::Kind`, since the second reader
-// shares nothing with the first.
+// shares no step with the first, only the form of the answer.
 #[derive(Clone, Copy, PartialEq, Eq)]
 enum Part {
     Machine = 1,
@@ -94,6 +94,13 @@ fn number(word: u32) -> u32
     word % 0x2000_0000
 }
 
+// The tasks of a channel's pair.
+fn ends(pair: u32) -> (u32, u32)
+    ensures { result ≡ (pair / 64, pair % 64) }
+{
+    (pair >> 6, pair & 63)
+}
+
 // The number of the word at this place, 0 past the end of the file.
 fn number_at(words: &[u32], place: usize) -> u32
     ensures { result ≡ slice_index words.now place % 536870912 }
@@ -168,7 +175,7 @@ impl Sweep<'_> {
                 if self.channels > 256 {
                     self.complain(Rule::TooMany, record.opened);
                 }
-                let (from, to) = (last >> 6, last & 63);
+                let (from, to) = ends(last);
                 if from >= to || to >= self.tasks {
                     self.complain(Rule::Pair, place);
                 }
@@ -250,11 +257,14 @@ fn numbers(heap: Global, words: &[u32]) -> Result<Numbers, AllocError> {
                 limit: first,
                 local: second,
             })?,
-            Ok(Part::Channel) => channels.push(Channel {
-                from: (second >> 6) as usize,
-                to: (second & 63) as usize,
-                bytes: first,
-            })?,
+            Ok(Part::Channel) => {
+                let (from, to) = ends(second);
+                channels.push(Channel {
+                    from: from as usize,
+                    to: to as usize,
+                    bytes: first,
+                })?;
+            }
             _ => {}
         }
     }

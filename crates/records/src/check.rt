@@ -11,7 +11,7 @@ use crate::fault::Fault;
 pub fn within(place: usize, n: usize, low: usize, high: usize) -> Result<(), Fault>
     ensures { reported result ≡ within place n low high }
 {
-    if low <= n && n <= high {
+    if (low..=high).contains(&n) {
         Ok(())
     } else {
         Err(Fault::Range { place })
@@ -28,7 +28,7 @@ fn sizes_within(place: usize, sizes: &[u32]) -> Result<(), Fault>
     Ok(())
 }
 
-// The sum of the region sizes, by a loop over the lent words: a rule of the project.
+// The sum of the region sizes, by a loop over the lent words, as docs/DECISIONS.md has the form.
 fn total(sizes: &[u32]) -> u64
     requires { length sizes.now ≤ 8 }
     ensures { result ≡ sum sizes.now }

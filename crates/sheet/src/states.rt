@@ -11,7 +11,7 @@ use table::Table;
 use totals::totals;
 
 impl<'p, S> Sheet<'p, S> {
-    // The same sheet in another state.
+    // The same sheet in another state. `close` and `reopen` promise the same, each in its own contract.
     pub(crate) fn moved<T>(self) -> Sheet<'p, T>
         ensures { result.table ≡ self.entry.table }
     {

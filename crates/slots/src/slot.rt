@@ -19,14 +19,15 @@ pub type ExecSlot = Slot<Seat>;
 // A transfer is placed by its start.
 pub type TransferSlot = Slot<u32>;
 
-// The slots of execs by task, those of transfers by 2 times the channel, plus 1 for the read, as a file numbers them.
+// The slots of execs by task, those of transfers by 2 times the channel, plus 1 for the read, as a file numbers
+// them: two tables, as docs/DECISIONS.md has the form.
 #[derive(Drop)]
 pub struct Slots {
     pub execs: Vec<ExecSlot>,
     pub transfers: Vec<TransferSlot>,
 }
 
-// Slots have no invariant of their own: a rule of the project. So each method says that the lengths stay.
+// Slots have no invariant of their own (a form in docs/DECISIONS.md), so each method says that the lengths stay.
 impl Slots {
     // Seats one exec, or empties its slot. There is nothing to do past the last task.
     pub fn set_exec(&mut self, task: usize, seat: Option<Seat>)

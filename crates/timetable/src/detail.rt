@@ -55,7 +55,8 @@ impl Detail {
     }
 }
 
-// The range of the number so many words behind the first of a record.
+// The range of the number so many words behind the first of a record: a text for one number of one record, so it is no
+// `Display` of a type.
 fn range(record: Record<'_>, offset: usize) -> &'static str {
     match (record, offset) {
         (Record::Machine { .. }, 0) => "cores are 1 to 8",

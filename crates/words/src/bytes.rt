@@ -9,7 +9,7 @@ use std::alloc::{AllocError, AllocFailed, Global};
 use std::error::Error;
 use std::fmt;
 
-// Why bytes give no words.
+// Why bytes give no words: want of memory, or the one fault that there can be, named by what it is.
 #[derive(Clone, Copy, Debug, PartialEq, Eq)]
 pub enum BytesError {
     NoMemory,
@@ -24,7 +24,7 @@ impl From<AllocError> for BytesError {
     }
 }
 
-// For callers that push. The two errors of std have no bound in common, so there are two of these.
+// For callers outside that push. The two errors of std have no bound in common, so there are two of these.
 impl<T: Drop> From<AllocFailed<T>> for BytesError {
     ghost from_gives = { λ _ r. r ≡ NoMemory };
 
