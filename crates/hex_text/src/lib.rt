@@ -117,7 +117,8 @@ impl State {
         }
     }
 
-    // The state after one more byte, the one at place `i`.
+    // The state after one more byte, the one at place `i`. In line, since it is asked for each byte of a text, twice.
+    #[inline(always)]
     fn after(self, i: usize, byte: u8) -> State
         ensures { result ≡ step i self byte }
     {
@@ -171,7 +172,7 @@ fn digit(byte: u8) -> Option<u32>
 fn blank(byte: u8) -> bool
     ensures { result ≡ blank byte }
 {
-    matches!(byte, b' ' | b'\t' | b'\r' | b'\n')
+    byte == b' ' || byte == b'\t' || byte == b'\r' || byte == b'\n'
 }
 
 // The state at the end of a text.
