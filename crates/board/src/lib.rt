@@ -1,6 +1,6 @@
 // The board by definition: plans, their files, sheets, totals and runs, and what holds of them.
 // The definitions are under specs/; this file has the plain records that they speak of.
-// Two of these have a `Default`, which fills the unused room of an `ArrayVec`.
+// Two of these have a `Default`, which fills the unused room of a row.
 #![tactic(auto)]
 
 // A task runs for at most `limit` cycles and keeps `local` bytes of its own.

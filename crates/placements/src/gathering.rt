@@ -1,5 +1,5 @@
 // Gathers the placements of a timetable from its file, with no memory but its own.
-ghost use Rattle.std.specs.Prelude.{◌≡◌, ◌≤◌, replicate, None as nothing, Ok, Err, refl, MatchResult};
+ghost use Rattle.std.specs.Prelude.{◌≡◌, Ok, Err, refl, MatchResult};
 ghost use Rattle.board.specs.Timetables.{Loaded as LoadedView, timetable_rules, read_sheet};
 ghost use Rattle.plan.specs.Views.{view};
 ghost use Rattle.placements.specs.Gathering.{sheet_in, loaded};
@@ -9,21 +9,10 @@ ghost use Rattle.std.proofs.Common.{rules};
 use crate::check::{exec, parts_of, transfer};
 use crate::fault::Fault;
 use crate::gathered::{Loaded, Placements};
-use arrayvec::ArrayVec;
 use board::Seat;
 use plan::Plan;
-use records::{FileRules, Found, read};
+use records::{FileRules, Found, Row, read};
 use words::{Kind, Record};
-
-// So many places of entries, all empty.
-fn empty<P: Copy, const ROOM: usize>(count: usize) -> ArrayVec<Option<P>, ROOM>
-    requires { count ≤ ROOM }
-    ensures { result.items ≡ replicate count nothing }
-{
-    let mut places = ArrayVec::from([None; ROOM]);
-    places.truncate(count);
-    places
-}
 
 // The rules of the timetable files of a plan.
 #[derive(Clone, Copy)]
@@ -53,8 +42,8 @@ impl FileRules for TimetableRules<'_> {
     fn nothing(&self) -> Loaded {
         Loaded {
             placements: Placements {
-                execs: empty(self.plan.tasks().len()),
-                transfers: empty(2 * self.plan.channels().len()),
+                execs: Row::filled(self.plan.tasks().len(), None),
+                transfers: Row::filled(2 * self.plan.channels().len(), None),
             },
             next_task: 0,
             next_value: 0,
@@ -67,21 +56,20 @@ impl FileRules for TimetableRules<'_> {
                 exec(self.plan, found.place, start, seat, so_far.next_task)?;
                 let (task, core, region) = parts_of(seat);
                 // A record that may stand names an entry of the plan, so its place is there; likewise below.
-                if let Some(cell) = so_far.placements.execs.get_mut(task) {
-                    *cell = Some(Seat {
+                so_far.placements.execs.set(
+                    task,
+                    Some(Seat {
                         start,
                         core,
                         region,
-                    });
-                }
+                    }),
+                );
                 so_far.next_task = task + 1;
             }
             Record::Transfer { start, side } => {
                 transfer(self.plan, found.place, start, side, so_far.next_value)?;
                 let value = side as usize;
-                if let Some(cell) = so_far.placements.transfers.get_mut(value) {
-                    *cell = Some(start);
-                }
+                so_far.placements.transfers.set(value, Some(start));
                 so_far.next_value = value + 1;
             }
             Record::Machine { .. }

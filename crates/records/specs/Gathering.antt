@@ -10,12 +10,13 @@ use Rattle.records.specs.declared.fault.Fault.{Fault}
 use Rattle.records.specs.declared.gathered.Gathered.{Gathered}
 use Rattle.board.specs.Files.{Rules, is_end, closing, told}
 use Rattle.board.specs.Plans.{PlanView, plan_of}
+use Rattle.records.specs.Rows.{items}
 use Rattle.records.specs.Shown.{shown}
 
 -- the numbers of a plan so far
 abbrev pub gathered : Gathered → PlanView
 gathered g =
-    plan_of g.cores g.slot_time g.slot_load g.scratchpad g.regions.items g.tasks.items g.channels.items
+    plan_of g.cores g.slot_time g.slot_load g.scratchpad (items g.regions) (items g.tasks) (items g.channels)
 
 -- one record more by the rules, or why it may not stand at this place; `tells` says what a fault is by number, layer and place
 abbrev pub Adds : {S F : Type 0} → Rules S → (F → Refusal) → S → ℕ → Said → Result (Unit {0}) F → S → Type 0

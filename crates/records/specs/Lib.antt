@@ -1,2 +1,3 @@
 pub mod Shown
 pub mod Gathering
+pub mod Rows

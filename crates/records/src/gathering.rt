@@ -10,8 +10,8 @@ use crate::check::{channel, ends_of, machine, regions, task};
 use crate::fault::Fault;
 use crate::found::Found;
 use crate::gathered::Gathered;
+use crate::row::Row;
 use crate::rules::{FileRules, read};
-use arrayvec::ArrayVec;
 use board::{Channel, Task};
 use words::{Kind, Record};
 
@@ -44,9 +44,9 @@ impl FileRules for PlanRules {
             slot_time: 0,
             slot_load: 0,
             scratchpad: 0,
-            regions: ArrayVec::new(),
-            tasks: ArrayVec::new(),
-            channels: ArrayVec::new(),
+            regions: Row::filled(0, 0),
+            tasks: Row::filled(0, Task::default()),
+            channels: Row::filled(0, Channel::default()),
         }
     }
 
@@ -67,7 +67,7 @@ impl FileRules for PlanRules {
             }
             Record::Regions { place: at, sizes } => {
                 regions(place, at, sizes, so_far.scratchpad)?;
-                so_far.regions = ArrayVec::try_from(sizes).unwrap();
+                so_far.regions = Row::of(sizes, 0);
             }
             Record::Task { limit, local } => {
                 task(place, limit, local, so_far.tasks.len())?;

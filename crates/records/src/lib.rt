@@ -6,6 +6,8 @@ mod fault;
 mod found;
 mod gathered;
 mod gathering;
+mod row;
+mod row_calls;
 mod rules;
 
 pub use check::{closing, ends_of, within};
@@ -13,4 +15,5 @@ pub use fault::Fault;
 pub use found::Found;
 pub use gathered::Gathered;
 pub use gathering::gather;
+pub use row::Row;
 pub use rules::{FileRules, read};

@@ -14,7 +14,7 @@ invariant_of-self c =
     let t = c.args.self.now in
     let s = sheet_in c.in_ok-found.found in
     let f = loaded_fits (plan_in t) c.args.words.now s c.in_ok-found.ensures in
-    let g = subst (Fits (plan_in t)) (sym (filled t c.fill.new.self s f (rw (← c.as_slice.ensures.value) c.fill.ensures.execs) (rw (← c.as_slice-2.ensures.value) c.fill.ensures.transfers))) f in
+    let g = subst (Fits (plan_in t)) (sym (filled t c.fill.new.self s f (rw (← c.as_slice.ensures) c.fill.ensures.execs) (rw (← c.as_slice-2.ensures) c.fill.ensures.transfers))) f in
     record {
       exec_lengths = c.fill.ensures.lengths.execs ∙ t.exec_lengths;
       transfer_lengths = c.fill.ensures.lengths.transfers ∙ t.transfer_lengths;
@@ -28,6 +28,6 @@ returns c =
     let s = sheet_in c.in_ok-found.found in
     let f = loaded_fits (plan_in t) c.args.words.now s c.in_ok-found.ensures in
     record {
-      after = record { plan = refl; after = rw c.in_ok-found.ensures (ap (λ z. (Ok tt, z)) (filled t c.fill.new.self s f (rw (← c.as_slice.ensures.value) c.fill.ensures.execs) (rw (← c.as_slice-2.ensures.value) c.fill.ensures.transfers))) };
+      after = record { plan = refl; after = rw c.in_ok-found.ensures (ap (λ z. (Ok tt, z)) (filled t c.fill.new.self s f (rw (← c.as_slice.ensures) c.fill.ensures.execs) (rw (← c.as_slice-2.ensures) c.fill.ensures.transfers))) };
       law = law_of_loading;
     }
