@@ -39,7 +39,8 @@ fn transfer_slots(heap: Global, plan: &Plan) -> Result<Vec<TransferSlot>, AllocE
             length: plan.cycles(channel.bytes) as u32,
             place: None,
         };
-        slots.extend_from_slice(&[empty, empty])?;
+        slots.push(empty)?;
+        slots.push(empty)?;
     }
     Ok(slots)
 }
