@@ -9,8 +9,8 @@ use Rattle.timetable.specs.declared.walk.Walk.{Walk}
 -- a record is taken from where the walk stands, and the walk then stands behind it in the same file; or none can be taken, and the walk stays
 abbrev pub Steps : Walk → Option Step → Walk → Type 0
 Steps old (Some s) new =
-    (s.places.start ≡ old.reader.place)
-    × (s.places.end ≡ new.reader.place)
+    (s.place ≡ old.reader.place)
+    × (s.end ≡ new.reader.place)
     × (record_at old.kinds.now old.reader.place old.reader.rest.now ≡ Ok (said s.«record», new.reader.rest.now))
     × (counted new.reader ≡ counted old.reader)
     × (new.kinds.now ≡ follows (said s.«record»))

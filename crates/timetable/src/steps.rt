@@ -13,7 +13,7 @@ pub struct Steps<'a> {
 
 impl fmt::Display for Steps<'_> {
     fn fmt<W: fmt::Write>(&self, f: &mut fmt::Formatter<W>) -> fmt::Result {
-        for step in Walk::new(self.words).take_while(|step| step.places.start <= self.last) {
+        for step in Walk::new(self.words).take_while(|step| step.place <= self.last) {
             writeln!(f, "{step}")?;
         }
         Ok(())
@@ -22,7 +22,7 @@ impl fmt::Display for Steps<'_> {
 
 impl fmt::Display for Step<'_> {
     fn fmt<W: fmt::Write>(&self, f: &mut fmt::Formatter<W>) -> fmt::Result {
-        let place = self.places.start;
+        let place = self.place;
         write!(f, "  at {place:>4}  ")?;
         match self.record {
             Record::Machine {

@@ -2,13 +2,13 @@
 ghost use Rattle.std.specs.Prelude.{◌≡◌, [], ◌∷◌};
 ghost use Rattle.words.specs.declared.kind.Kind.TheVariants.{Machine};
 
-use std::ops::Range;
 use words::{Kind, Reader, Record};
 
-// A record, with the places of its words.
-#[derive(Drop)]
+// A record, with the place of its first word and the place behind its last.
+#[derive(Clone, Copy)]
 pub struct Step<'a> {
-    pub places: Range<usize>,
+    pub place: usize,
+    pub end: usize,
     pub record: Record<'a>,
 }
 
@@ -45,11 +45,12 @@ impl<'a> Iterator for Walk<'a> {
     ghost remaining = { λ w. at_most (length w.reader.rest.now) };
 
     fn next(&mut self) -> Option<Step<'a>> {
-        let start = self.reader.place();
+        let place = self.reader.place();
         let record = self.reader.record(self.kinds).ok()?;
         self.kinds = record.follows();
         Some(Step {
-            places: start..self.reader.place(),
+            place,
+            end: self.reader.place(),
             record,
         })
     }
@@ -68,10 +69,10 @@ pub enum Spot<'a> {
 impl<'a> Spot<'a> {
     pub(crate) fn of(words: &'a [u32], place: usize) -> Spot<'a> {
         let mut walk = Walk::new(words);
-        match walk.find(|step| step.places.contains(&place)) {
+        match walk.find(|step| (step.place..step.end).contains(&place)) {
             Some(step) => Spot::Within {
                 record: step.record,
-                offset: place - step.places.start,
+                offset: place - step.place,
             },
             None if walk.reader.place() == place => Spot::Open(walk.kinds),
             None => Spot::Open(&[]),
