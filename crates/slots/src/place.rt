@@ -44,7 +44,7 @@ impl Place for u32 {
         BUS
     }
 
-    fn start(self) -> u32 {
+    fn start(self) -> Self {
         self
     }
 }

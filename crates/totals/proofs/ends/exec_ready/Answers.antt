@@ -31,7 +31,7 @@ loop-channel-preserved-then-channel-task c =
     record {
       can = search rules;
       finite = search rules;
-      waits = λ k. waiting_into (plan_in t) (sheet t) c.args.task k c.loop-channel.at c.in_ok-slot_end.field-0 c.max-at.result _ _ z.below (length_push c.loop-channel.yielded _) c.max-at.ensures into (c.in_ok-slot_end.ensures ∙ z.read_side.ends) ∙ c.loop-channel.invariant.waits k;
+      waits = λ k. waiting_into (plan_in t) (sheet t) c.args.task k c.loop-channel.at c.in_ok-slot_end.field-0 _ _ _ z.below (length_push c.loop-channel.yielded _) (search rules) into (c.in_ok-slot_end.ensures ∙ z.read_side.ends) ∙ c.loop-channel.invariant.waits k;
     }
 
 pub loop-channel-preserved : goal.loop-channel-preserved
