@@ -68,14 +68,15 @@ pub struct File<'a> {
     pub words: &'a [u32],
 }
 
-impl File<'_> {
+impl<'a> File<'a> {
     // The words before this place.
-    pub(crate) fn cut(self, place: usize) -> Result<Vec<u32>, AllocError>
-        ensures { IfOk result (λ v. v.items ≡ take place self.entry.words.now) }
+    pub(crate) fn cut(self, place: usize) -> &'a [u32]
+        ensures { result.now ≡ take place self.entry.words.now }
     {
-        let mut words = Vec::from_slice(self.heap, self.words)?;
-        words.truncate(place);
-        Ok(words)
+        match self.words.split_at_checked(place) {
+            Some((front, _)) => front,
+            None => self.words,
+        }
     }
 
     // With another word at this place.

@@ -78,7 +78,9 @@ impl<'a> Round<'a> {
 
     fn everywhere(&mut self) -> Result<(), AllocError> {
         self.trial.file(Damage::Unharmed, self.file.words)?;
-        self.copies(Damage::Cut, File::cut)?;
+        self.each(Places::ALL, |round, place, _| {
+            round.trial.file(Damage::Cut, round.file.cut(place))
+        })?;
         self.copies(Damage::Removed, File::without)?;
         self.copies(Damage::Doubled, File::doubled)?;
         self.appendings()
@@ -135,7 +137,7 @@ impl<'a> Round<'a> {
             };
             let behind = self.file.words.iter().enumerate().skip(first).skip(1);
             for (second, old) in behind.take_while(|(_, word)| **word >> 29 == 0) {
-                self.trial.file(Damage::TwoInARecord, &file.cut(second)?)?;
+                self.trial.file(Damage::TwoInARecord, file.cut(second))?;
                 for other in spoiled(*old) {
                     let words = file.with_word(second, other)?;
                     self.trial.file(Damage::TwoInARecord, &words)?;
@@ -178,10 +180,10 @@ impl Trial {
     }
 
     fn region_counts(&mut self, size: u32) -> Result<(), AllocError> {
+        let sizes = [size; 12];
         for had in 0..=12 {
-            let sizes: Vec<u32> = iter::repeat_n(size, had).collect(self.heap())?;
             for told in (0..20).chain(iter::once(0x1fff_ffff)) {
-                self.region_count(told, &sizes)?;
+                self.region_count(told, &sizes[..had])?;
             }
         }
         Ok(())
