@@ -13,6 +13,7 @@ pub struct Row<T: Copy, const ROOM: usize> {
 
 impl<T: Copy, const ROOM: usize> Copy for Row<T, ROOM> {}
 
+// By hand, since `Clone` can't be derived over the ghost field.
 impl<T: Copy, const ROOM: usize> Clone for Row<T, ROOM> {
     ghost is_clone = { λ x y. y ≡ x };
 

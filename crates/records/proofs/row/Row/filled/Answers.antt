@@ -1,6 +1,6 @@
-use Rattle.std.proofs.Common.{min, arith}
+use Rattle.std.proofs.Common.{replicate, ap, ◌∙◌, arith}
 use Rattle.std.proofs.lemmas.List.{take-replicate}
 use Rattle.records.proofs.row.Row.filled.Goals as goal
 
 pub returns : goal.returns
-returns g c = rw c.min.ensures (take-replicate (min c.args.count g.row.ROOM) g.row.ROOM c.args.thing (omega arith))
+returns g c = take-replicate _ g.row.ROOM c.args.thing (omega (arith, c.min.ensures)) ∙ ap (λ n. replicate n c.args.thing) (omega (arith, c.min.ensures))
